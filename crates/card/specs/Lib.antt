@@ -1,0 +1,4 @@
+pub mod Cards
+pub mod Verdicts
+pub mod Lawful
+pub mod Times

@@ -1,0 +1,4 @@
+pub mod Sheets
+pub mod Verdicts
+pub mod Timetables
+pub mod Held
