@@ -8,12 +8,11 @@ use native.Mathlib.Numerals.{one-add}
 use native.Mathlib.Omega.{arith}
 use lib.ListN.{length, getD, take}
 use lib.Dec.{ltb}
-use lib.Count.{ones, ones-step, ones-cat}
+use lib.Count.{ones, ones-step}
 use lib.Bits.{bitOr}
 use borrow.Author.Tests.{lt-ltb}
-use Rattle.std.specs.shelf.Lists.{countBy}
 use Rattle.std.proofs.shelf.Sums.{sumBy-cons}
-use Rattle.std.proofs.shelf.Bits.{or-shifted, or-comm, one-shl, shr-shr, pow-pos}
+use Rattle.std.proofs.shelf.Bits.{or-shifted, or-comm, one-shl, shr-shr}
 use Rattle.std.proofs.shelf.Lists.{take-more, length-take-le}
 use Rattle.local.specs.Masks.{bit, mask, seatedCores}
 

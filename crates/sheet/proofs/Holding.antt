@@ -1,5 +1,5 @@
 -- What a placement holds is lawful, its sheet meets the equations of the card's frame, and it keeps that frame and its boundaries.
-use mathlib.Core.Path.{_≡_, refl, sym, ap, _∙_, subst}
+use mathlib.Core.Path.{_≡_, refl, ap, subst}
 use Prim.Native.Nat.{ℕ}
 use native.Mathlib.Omega.{arith}
 use Rattle.std.specs.declared.option.Option.{Option}
@@ -13,7 +13,7 @@ use Rattle.card.proofs.CardsJudged.{lawful-frame}
 use Rattle.sheet.specs.declared.types.Sheet.{Sheet}
 use Rattle.sheet.specs.declared.placement.Plan.{Plan}
 use Rattle.sheet.specs.declared.placement.Placement.{Placement}
-use Rattle.sheet.specs.Held.{planned, held, Holds}
+use Rattle.sheet.specs.Held.{planned, Holds}
 use Rattle.sheet.specs.Verdicts.{judged, Meets}
 use Rattle.sheet.proofs.Agreement.{ok-fine, fine-lawful, fine-meets, frame-meets}
 

@@ -18,7 +18,7 @@ use Rattle.card.specs.declared.types.Card.{Card}
 use Rattle.sheet.specs.declared.types.Sheet.{Sheet}
 use Rattle.card.specs.Cards.{periodOf, runTime, boundaries, span, opens, closes}
 use Rattle.sheet.specs.Sheets.{row, share}
-use Rattle.card.specs.Verdicts.{Judged, fine, each}
+use Rattle.card.specs.Verdicts.{fine, each}
 use Rattle.sheet.specs.Verdicts.{judgedShares, judgedRow, inWindow, judgedJob, judgedSheet, Meets, judgedJobs}
 use Rattle.card.proofs.Judges.{Ok, Clean, ok-orElse, orElse-ok, clean-orElse, ok-unless, unless-ok, ok-when, when-ok, clean-when, ok-below, below-ok, clean-each}
 
