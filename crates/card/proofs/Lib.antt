@@ -1,6 +1,13 @@
 pub mod Bounds
 pub mod Windows
+pub mod Faults
+pub mod Fillings
+pub mod Insertions
+pub mod Releases
 pub mod Divisors
+pub mod Euclid
 pub mod Frames
 pub mod Judges
 pub mod CardsJudged
+pub mod Checks
+pub mod Asked

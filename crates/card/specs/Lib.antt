@@ -1,4 +1,6 @@
+pub mod Limits
 pub mod Cards
+pub mod Lines
 pub mod Verdicts
 pub mod Lawful
 pub mod Times

@@ -24,7 +24,8 @@ use Rattle.refusal.specs.declared.DispatchFault.the-variants.{LastFrame}
 use Rattle.dispatch.specs.declared.Stamped.{Stamped}
 use Rattle.dispatch.specs.Counts.{chart, ticks}
 use Rattle.dispatch.specs.Promise.{Right, Told}
-use Rattle.dispatch.specs.Runs.{Call, Where, Answers, whereNext, behind, handed, nothing}
+use Rattle.dispatch.specs.Books.{nothing}
+use Rattle.dispatch.specs.Runs.{Call, Where, Answers, whereNext, behind, handed}
 use Rattle.dispatch.specs.Runs.Call.{next-slice}
 use Rattle.dispatch.specs.Runs.Where.{inside, at-start, past}
 use Rattle.dispatch.proofs.Goods.{Good, total}

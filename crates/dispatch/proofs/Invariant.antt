@@ -15,12 +15,13 @@ use Rattle.sheet.specs.declared.placement.Placement.{Placement}
 use Rattle.chart.specs.Charts.{got}
 use Rattle.card.specs.Cards.{begins, periodOf, runTime, released, tasksOf}
 use Rattle.local.specs.Meaning.{Local, seated}
-use Rattle.dispatch.specs.declared.accounts.Account.{Account}
+use Rattle.dispatch.specs.declared.books.Account.{Account}
 use Rattle.dispatch.specs.declared.state.Dispatcher.{Dispatcher}
 use Rattle.dispatch.specs.declared.Stamped.{Stamped}
 use Rattle.dispatch.specs.Counts.{chart, ticks, lastStart}
 use Rattle.dispatch.specs.Promise.{Follows}
-use Rattle.dispatch.specs.Runs.{Out, nothing}
+use Rattle.dispatch.specs.Books.{nothing}
+use Rattle.dispatch.specs.Runs.{Out}
 use Rattle.dispatch.proofs.Along.{lastStart-push}
 use Rattle.dispatch.proofs.Goods.{Good, edge, to-h}
 use Rattle.dispatch.proofs.States.{Sound, Mid}

@@ -21,3 +21,6 @@ pub mod Placed
 pub mod Fits
 pub mod Ranged
 pub mod Opening
+pub mod Entries
+pub mod Filled
+pub mod Moving

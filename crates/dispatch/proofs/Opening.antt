@@ -11,10 +11,11 @@ use Rattle.sheet.specs.declared.types.Sheet.{Sheet}
 use Rattle.sheet.specs.declared.placement.Placement.{Placement}
 use Rattle.card.specs.Cards.{runTime}
 use Rattle.sheet.specs.Held.{taskIn, Holds}
-use Rattle.dispatch.specs.declared.accounts.Account.{Account}
-use Rattle.dispatch.specs.declared.accounts.Books.{Books}
+use Rattle.dispatch.specs.declared.books.Account.{Account}
+use Rattle.dispatch.specs.declared.books.Books.{Books}
 use Rattle.dispatch.specs.declared.state.Dispatcher.{Dispatcher}
-use Rattle.dispatch.specs.Runs.{Opened, Begun, nothing}
+use Rattle.dispatch.specs.Books.{Opened, nothing}
+use Rattle.dispatch.specs.Runs.{Begun}
 
 -- opened accounts owe the run times of the card that is held
 pub owing : (p : Placement) (accounts : List Account) → Opened p accounts → (card : Card) (sheet : Sheet) → Holds p card sheet → (i : ℕ) → i < card .count → getD accounts i nothing ≡ record { given = 0; owed = runTime card i }

@@ -20,14 +20,15 @@ use Rattle.sheet.specs.Held.{held as holding, Holds}
 use Rattle.chart.specs.Charts.{got}
 use Rattle.card.specs.Cards.{periodOf, runTime}
 use Rattle.local.specs.Meaning.{Local}
-use Rattle.dispatch.specs.declared.accounts.Account.{Account}
+use Rattle.dispatch.specs.declared.books.Account.{Account}
 use Rattle.dispatch.specs.declared.state.Dispatcher.{Dispatcher}
 use Rattle.refusal.specs.declared.DispatchFault.{DispatchFault}
 use Rattle.refusal.specs.declared.DispatchFault.the-variants.{NoTask}
 use Rattle.dispatch.specs.declared.Stamped.{Stamped}
 use Rattle.dispatch.specs.Counts.{givenOf, lastStart, switchesOf}
 use Rattle.dispatch.specs.Promise.{Right}
-use Rattle.dispatch.specs.Runs.{Call, accountIn, handed, nothing}
+use Rattle.dispatch.specs.Books.{nothing}
+use Rattle.dispatch.specs.Runs.{Call, accountIn, handed}
 use Rattle.dispatch.specs.Runs.Call.{account, tally}
 use Rattle.dispatch.proofs.Goods.{Good}
 use Rattle.dispatch.proofs.Owing.{owes-given}

@@ -19,7 +19,8 @@ use Rattle.dispatch.specs.declared.state.Dispatcher.{Dispatcher}
 use Rattle.dispatch.specs.declared.Stamped.{Stamped}
 use Rattle.dispatch.specs.Counts.{chart, ticks}
 use Rattle.dispatch.specs.Promise.Follows.{opening, going-on}
-use Rattle.dispatch.specs.Runs.{Out, nothing}
+use Rattle.dispatch.specs.Books.{nothing}
+use Rattle.dispatch.specs.Runs.{Out}
 use Rattle.dispatch.proofs.Goods.{Good, to-h}
 use Rattle.dispatch.proofs.States.{Open, load}
 use Rattle.dispatch.proofs.Owing.{Owes, owes-anew}

@@ -12,10 +12,10 @@ use Rattle.card.specs.declared.types.Card.{Card}
 use Rattle.sheet.specs.declared.types.Sheet.{Sheet}
 use Rattle.chart.specs.Charts.{Row}
 use Rattle.card.specs.Cards.{released, tasksOf}
-use Rattle.dispatch.specs.declared.accounts.Books.{Books}
+use Rattle.dispatch.specs.declared.books.Books.{Books}
 use Rattle.dispatch.specs.declared.Stamped.{Stamped}
 use Rattle.dispatch.specs.Counts.{ticks, changed, switchesOf, busyTicks}
-use Rattle.dispatch.specs.Runs.{Entered}
+use Rattle.dispatch.specs.Books.{Entered}
 use Rattle.dispatch.proofs.Charts.{ticks-push}
 use Rattle.dispatch.proofs.Seats.{taken-narrow, changed-taken, lastSeats, lastSeats-push, switches-push, busy-push, ones-busy}
 use Rattle.dispatch.proofs.States.{Fine}

@@ -2,9 +2,8 @@
 use mathlib.Core.Path.{_≡_}
 use mathlib.Core.List.{List, [], _∷_, _++_}
 use mathlib.Core.Bool.{Bool, true, false, cond, _&&_}
-use Prim.Native.Nat.{ℕ, _+_, _-_, _*_, _^_, _%_, _<_, min}
+use Prim.Native.Nat.{ℕ, _+_, _-_, _^_, _<_}
 use lib.ListN.{getD}
-use lib.Count.{ones}
 use lib.Dec.{eqb, leb, ltb}
 use Rattle.std.specs.declared.option.Option.{Option}
 use Rattle.std.specs.declared.result.Result.{Result}
@@ -13,25 +12,17 @@ use Rattle.refusal.specs.declared.DispatchFault.{DispatchFault}
 use Rattle.refusal.specs.declared.DispatchFault.the-variants.{LastFrame, NoTask}
 use Rattle.refusal.specs.declared.DispatchFault.the-variants as fault
 use Rattle.card.specs.declared.types.Card.{Card}
-use Rattle.card.specs.Cards.{Frame, begins, span, periodOf, runTime}
+use Rattle.card.specs.Cards.{Frame, begins, span, runTime}
 use Rattle.sheet.specs.declared.types.Sheet.{Sheet}
 use Rattle.sheet.specs.declared.placement.Placement.{Placement}
 use Rattle.sheet.specs.Sheets.{row}
-use Rattle.sheet.specs.Held.{held, asked, taskIn, Holds, Empty}
-use Rattle.local.specs.declared.slice.Slice.{Slice}
-use Rattle.local.specs.Meaning.{Local, Loaded, Handed, seated}
-use Rattle.dispatch.specs.declared.accounts.Account.{Account}
-use Rattle.dispatch.specs.declared.accounts.Books.{Books}
+use Rattle.sheet.specs.Held.{held, asked, Holds, Empty}
+use Rattle.local.specs.Meaning.{Local, Loaded, Handed}
+use Rattle.dispatch.specs.declared.books.Books.{Books}
 use Rattle.dispatch.specs.declared.state.Dispatcher.{Dispatcher}
 use Rattle.dispatch.specs.declared.Stamped.{Stamped}
-use Rattle.dispatch.specs.Counts.{changed, stampOf}
-
-abbrev pub nothing : Account
-nothing = record { given = 0; owed = 0 }
-
--- accounts at the start, of the first 32 tasks: nothing given, the run times owed
-abbrev pub Opened : Placement → List Account → Type 0
-Opened p accounts = (i : ℕ) → i < 32 → getD accounts i nothing ≡ record { given = 0; owed = taskIn (held p) i .«run_time» }
+use Rattle.dispatch.specs.Books.{nothing, Entered}
+use Rattle.dispatch.specs.Counts.{stampOf}
 
 pub record Begun {S : Type 0} (p : Placement) (s : S) (first : ℕ) (d : Dispatcher S) : Type 0 where
   pub held : d .placement ≡ p
@@ -56,26 +47,6 @@ behind n f k = cond (ltb (k + 1) n) (at-start f (k + 1)) (cond (ltb (f + 1) (2 ^
 
 abbrev pub whereNext : {S : Type 0} → Local S → ℕ → Dispatcher S → Where
 whereNext m n d = cond (d .loaded) (cond (eqb (m .left (d .scheduler)) 0) (behind n (d .frame) (d .interval)) (inside (d .frame) (d .interval))) (at-start (d .frame) (d .interval))
-
--- the greatest number of 64 bits stands for all above it
-abbrev pub tallied : ℕ → ℕ
-tallied n = min n (2 ^ 64 - 1)
-
--- an account from which `amount` ticks are paid, of a run time
-abbrev pub paid : ℕ → ℕ → ℕ → Account
-paid run owed amount = record { given = run - (owed - amount); owed = owed - amount }
-
--- what task i is owed as a slice begins at `tick` of the frame: its run time where that slice begins an interval and a window of the task
-abbrev pub due : Card → Books → Bool → ℕ → ℕ → ℕ
-due card b first tick i = cond (first && eqb (tick % periodOf card i) 0) (runTime card i) (getD (b .accounts) i nothing .owed)
-
--- how the books stand after the slice z that begins at `tick` of the frame, and an interval where `first` says so
-pub record Entered (card : Card) (b : Books) (first : Bool) (tick : ℕ) (z : Slice) (b′ : Books) : Type 0 where
-  pub accounts : (i : ℕ) → i < card .count → getD (b′ .accounts) i nothing ≡ paid (runTime card i) (due card b first tick i) (seated z (i + 1) * z .length)
-  pub slices : b′ .slices ≡ tallied (b .slices + 1)
-  pub switches : b′ .switches ≡ tallied (b .switches + changed (cond first [] (b .seats)) (z .seats))
-  pub busy : b′ .busy ≡ tallied (b .busy + z .length * ones (z .busy))
-  pub seats : b′ .seats ≡ z .seats
 
 -- a slice in interval k of frame f, handed out by the scheduler in the state s
 pub record Out {S : Type 0} (m : Local S) (card : Card) (h f k : ℕ) (first : Bool) (s : S) (z : Stamped) (d d′ : Dispatcher S) : Type 0 where

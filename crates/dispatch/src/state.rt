@@ -2,7 +2,7 @@ ghost use mathlib.Core.Bool.{true};
 ghost use mathlib.Core.Path.{_≡_};
 ghost use Rattle.sheet.specs.Held.{held};
 ghost use Rattle.dispatch.specs.Ranges.{ranged};
-use crate::accounts::Books;
+use crate::books::Books;
 use sheet::Placement;
 
 // An accepted placement that is handed out slice by slice. It stands in an interval of a frame,

@@ -10,10 +10,10 @@ use lib.ListN.{length, getD, take}
 use lib.Dec.{ltb}
 use lib.Count.{ones, ones-step}
 use lib.Bits.{bitOr}
-use borrow.Author.Tests.{lt-ltb}
 use Rattle.std.proofs.shelf.Sums.{sumBy-cons}
 use Rattle.std.proofs.shelf.Bits.{or-shifted, or-comm, one-shl, shr-shr}
 use Rattle.std.proofs.shelf.Lists.{take-more, length-take-le}
+use Rattle.std.proofs.shelf.Tests.{cond-both}
 use Rattle.local.specs.Masks.{bit, mask, seatedCores}
 
 bit-le : (s : ℕ) → bit s ≤ 1
@@ -64,13 +64,18 @@ module _ (xs : List ℕ) (i : ℕ) (h : i < length xs) where
   small : mask (take i xs) < 2 ^ i
   small = rw (length-take-le i xs (omega arith)) at (mask-lt (take i xs))
 
-  -- the loop's step, at a seat that is taken and at one that is idle
-  pub mask-more-yes : i < 16 → 0 < getD xs i 0 → bitOr (mask (take i xs)) ((1 * 2 ^ i) % 2 ^ 16) ≡ mask (take (i + 1) xs)
-  mask-more-yes k p =
-      let m : ℕ = mask (take i xs) in
-      let b : bit (getD xs i 0) ≡ 1 = ap (λ (t : Bool). cond t 1 0) (lt-ltb 0 (getD xs i 0) p) in
-      ap (bitOr m) (one-shl i 16 k) ∙ or-comm m (2 ^ i) ∙ ap (λ (q : ℕ). bitOr q m) (sym (one-mul (2 ^ i)))
-      ∙ or-shifted 1 i m small ∙ sym (more ∙ ap (λ (q : ℕ). m + q * 2 ^ i) b ∙ omega arith)
+  -- the loop's step
+  pub mask-more : i < 16 → cond (ltb 0 (getD xs i 0)) (bitOr (mask (take i xs)) ((1 * 2 ^ i) % 2 ^ 16)) (mask (take i xs)) ≡ mask (take (i + 1) xs)
+  mask-more k = cond-both (ltb 0 (getD xs i 0)) (bitOr (mask (take i xs)) ((1 * 2 ^ i) % 2 ^ 16)) (mask (take i xs)) (λ v. v ≡ mask (take (i + 1) xs)) seated idle
+    where
+      seated : ltb 0 (getD xs i 0) ≡ true → bitOr (mask (take i xs)) ((1 * 2 ^ i) % 2 ^ 16) ≡ mask (take (i + 1) xs)
+      seated p =
+          let m : ℕ = mask (take i xs) in
+          let b : bit (getD xs i 0) ≡ 1 = ap (λ (t : Bool). cond t 1 0) p in
+          ap (bitOr m) (one-shl i 16 k) ∙ or-comm m (2 ^ i) ∙ ap (λ (q : ℕ). bitOr q m) (sym (one-mul (2 ^ i)))
+          ∙ or-shifted 1 i m small ∙ sym (more ∙ ap (λ (q : ℕ). m + q * 2 ^ i) b ∙ omega arith)
 
-  pub mask-more-no : getD xs i 0 ≡ 0 → mask (take i xs) ≡ mask (take (i + 1) xs)
-  mask-more-no p = sym (more ∙ ap (λ (y : ℕ). mask (take i xs) + bit y * 2 ^ i) p ∙ omega arith)
+      idle : ltb 0 (getD xs i 0) ≡ false → mask (take i xs) ≡ mask (take (i + 1) xs)
+      idle p =
+          let b : bit (getD xs i 0) ≡ 0 = ap (λ (t : Bool). cond t 1 0) p in
+          sym (more ∙ ap (λ (y : ℕ). mask (take i xs) + y * 2 ^ i) b ∙ omega arith)

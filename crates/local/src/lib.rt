@@ -1,7 +1,10 @@
 // What a local scheduler means: it hands out the slices of one interval after another.
-ghost use mathlib.Core.Bool.{true, false};
+ghost use mathlib.Core.Bool.{cond, true, false};
 ghost use mathlib.Core.Path.{_≡_};
 ghost use Prim.Native.Nat.{ℕ, _+_, _*_, _/_, _%_, _^_, _<_, _≤_};
+ghost use lib.Bits.{bitOr};
+ghost use lib.Count.{ones};
+ghost use lib.Dec.{ltb};
 ghost use lib.ListN.{getD};
 ghost use Rattle.std.specs.Results.{Cases};
 ghost use Rattle.refusal.specs.Table.{localTold, refusal};
@@ -52,16 +55,28 @@ pub trait LocalScheduler {
         ensures { λ r. ⌜ r ≡ amountOf meaning (now (self .entry)) task ⌝ };
 }
 
+// The mask with the bit of a core, from 0, where it is seated.
+fn marked(busy: u16, core: usize, seat: u8) -> u16
+    requires { ⌜ core < 16 ⌝ }
+    ensures { λ r. ⌜ r ≡ cond (ltb 0 seat) (bitOr busy ((1 * 2 ^ core) % 2 ^ 16)) busy ⌝ }
+{
+    if 0 < seat { busy | (1u16 << core) } else { busy }
+}
+
 fn mask_of(seats: &[u8; 16]) -> u16
     ensures { λ r. ⌜ r ≡ mask (now (seats .entry)) ⌝ }
 {
     let mut busy: u16 = 0;
     for c in 0..16 {
-        if seats[c] != 0 {
-            busy |= 1u16 << c;
-        }
+        busy = marked(busy, c, seats[c]);
     }
     busy
+}
+
+fn ones_of(busy: u16) -> u32
+    ensures { λ r. ⌜ r ≡ ones busy ⌝ }
+{
+    busy.count_ones()
 }
 
 impl Slice {
@@ -80,9 +95,10 @@ impl Slice {
 
     // How many cores are seated.
     pub fn busy_cores(&self) -> u32
-        ensures { λ r. ⌜ r ≡ seatedCores (now (self .entry) .seats) ⌝ }
+        ensures ones { λ r. ⌜ r ≡ ones (now (self .entry) .busy) ⌝ }
+        ensures cores { λ r. ⌜ r ≡ seatedCores (now (self .entry) .seats) ⌝ }
     {
-        self.busy.count_ones()
+        ones_of(self.busy)
     }
 }
 

@@ -1,9 +1,10 @@
 -- The number table: layer, number and place of each refusal. Places count from 1; 0 stands for none.
-use mathlib.Core.List.{List}
+use mathlib.Core.List.{List, _++_}
 use mathlib.Core.Bool.{cond}
 use Prim.Native.Nat.{ℕ}
 use lib.Chars.{codes}
 use lib.Dec.{ltb}
+use Rattle.std.specs.Written.{decimal}
 use Rattle.refusal.specs.declared.Layer.{Layer}
 use Rattle.refusal.specs.declared.Layer.the-variants as layer
 use Rattle.refusal.specs.declared.Refusal.{Refusal}
@@ -51,12 +52,16 @@ dispatchTold LastFrame = refusal layer.Dispatch 42 0 0
 dispatchTold NoTask = refusal layer.Dispatch 43 0 0
 
 -- the word that is printed for a layer
-abbrev pub wordOf : Layer → List ℕ
-wordOf layer.File = codes "file"
-wordOf layer.Card = codes "card"
-wordOf layer.Sheet = codes "sheet"
-wordOf layer.Local = codes "local"
-wordOf layer.Dispatch = codes "dispatch"
+abbrev pub layerText : Layer → List ℕ
+layerText layer.File = codes "file"
+layerText layer.Card = codes "card"
+layerText layer.Sheet = codes "sheet"
+layerText layer.Local = codes "local"
+layerText layer.Dispatch = codes "dispatch"
+
+-- the text of a refusal, as `refused sheet 24 2 1`
+abbrev pub refusalText : Refusal → List ℕ
+refusalText r = codes "refused " ++ (layerText (r .layer) ++ (codes " " ++ (decimal (r .number) ++ (codes " " ++ (decimal (r .place .0) ++ (codes " " ++ decimal (r .place .1)))))))
 
 -- the layer by the number: the tens tell it
 abbrev pub layerOf : ℕ → Layer

@@ -1,8 +1,10 @@
 // Every refusal of the library, and the one table of their numbers.
 ghost use mathlib.Core.Path.{_≡_};
-ghost use Rattle.refusal.specs.Table.{fileTold, cardTold, sheetTold, localTold, dispatchTold, wordOf};
+ghost use Rattle.refusal.specs.Table.{fileTold, cardTold, sheetTold, localTold, dispatchTold, layerText, refusalText};
+ghost use Rattle.std.specs.declared.option.Option.the-variants.{Some};
 ghost use Rattle.refusal.specs.declared.CardFault.the-variants.{File};
 ghost use Rattle.refusal.specs.declared.SheetFault.the-variants.{Card};
+use std::fmt;
 
 // The layer that refuses.
 #[derive(Clone, Copy, PartialEq, Eq, Debug)]
@@ -69,16 +71,16 @@ pub enum DispatchFault {
 pub impl From<FileFault> for CardFault as CardFromFile {
     ghost converts = { λ e r. r ≡ File e };
 
-    fn from(e: FileFault) -> CardFault {
-        CardFault::File(e)
+    fn from(fault: FileFault) -> CardFault {
+        CardFault::File(fault)
     }
 }
 
 pub impl From<CardFault> for SheetFault as SheetFromCard {
     ghost converts = { λ e r. r ≡ Card e };
 
-    fn from(e: CardFault) -> SheetFault {
-        SheetFault::Card(e)
+    fn from(fault: CardFault) -> SheetFault {
+        SheetFault::Card(fault)
     }
 }
 
@@ -158,17 +160,27 @@ impl DispatchFault {
     }
 }
 
-impl Layer {
-    // The word that is printed for it.
-    pub fn word(self) -> &'static str
-        ensures { λ r. ⌜ now r ≡ wordOf self ⌝ }
-    {
+pub impl fmt::Display for Layer as LayerDisplay {
+    ghost shown = { λ l. Some (layerText l) };
+
+    fn fmt<W: fmt::Write>(&self, f: &mut fmt::Formatter<W>) -> fmt::Result {
         match self {
-            Layer::File => "file",
-            Layer::Card => "card",
-            Layer::Sheet => "sheet",
-            Layer::Local => "local",
-            Layer::Dispatch => "dispatch",
+            Layer::File => write!(f, "file"),
+            Layer::Card => write!(f, "card"),
+            Layer::Sheet => write!(f, "sheet"),
+            Layer::Local => write!(f, "local"),
+            Layer::Dispatch => write!(f, "dispatch"),
         }
+    }
+}
+
+pub impl fmt::Display for Refusal as RefusalDisplay {
+    ghost shown = { λ r. Some (refusalText r) };
+
+    fn fmt<W: fmt::Write>(&self, f: &mut fmt::Formatter<W>) -> fmt::Result {
+        let layer = self.layer;
+        let number = self.number;
+        let (first, second) = self.place;
+        write!(f, "refused {layer} {number} {first} {second}")
     }
 }

@@ -9,13 +9,12 @@ use Rattle.card.specs.declared.types.Card.{Card}
 use Rattle.card.specs.Cards.{tasksOf}
 use Rattle.card.specs.Lawful.{Lawful}
 use Rattle.card.specs.Verdicts.{frameOf, fine}
-use Rattle.card.proofs.CardsJudged.{lawful-frame}
 use Rattle.sheet.specs.declared.types.Sheet.{Sheet}
 use Rattle.sheet.specs.declared.placement.Plan.{Plan}
 use Rattle.sheet.specs.declared.placement.Placement.{Placement}
 use Rattle.sheet.specs.Held.{planned, Holds}
 use Rattle.sheet.specs.Verdicts.{judged, Meets}
-use Rattle.sheet.proofs.Agreement.{ok-fine, fine-lawful, fine-meets, frame-meets}
+use Rattle.sheet.proofs.Agreement.{ok-fine, fine-lawful, fine-meets}
 
 pub some-inj : {X : Type 0} (x y : X) → Some x ≡ Some y → x ≡ y
 some-inj x y e = ap (λ (o : Option _). valueOr o x) e
@@ -35,8 +34,8 @@ held-fine p card sheet h =
     let q = plan-of (p .plan) card sheet h in
     subst (λ c. judged c sheet ≡ fine) (q .2) (subst (λ s. judged (q .0 .card) s ≡ fine) (q .3) (ok-fine (q .0 .card) (q .0 .sheet) (q .0 .accepted)))
 
-pub held-good : (p : Placement) (card : Card) (sheet : Sheet) → Holds p card sheet → (l : Lawful card) × Meets card (l .frame) sheet
+pub held-good : (p : Placement) (card : Card) (sheet : Sheet) → Holds p card sheet → Lawful card × Meets card (frameOf (tasksOf card)) sheet
 held-good p card sheet h =
     let e = held-fine p card sheet h in
     let l = fine-lawful card sheet e in
-    (l, frame-meets card sheet (frameOf (tasksOf card)) (l .frame) (lawful-frame card l) (l .is-frame) (fine-meets card sheet l e))
+    (l, fine-meets card sheet l e)

@@ -5,3 +5,7 @@ pub mod SheetsJudged
 pub mod Agreement
 pub mod Answered
 pub mod Holding
+pub mod Rooms
+pub mod Turns
+pub mod Begun
+pub mod Ordered

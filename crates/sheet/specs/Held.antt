@@ -1,7 +1,9 @@
 -- What a placement holds: nothing, or one card and one sheet.
 use mathlib.Core.List.{List, []}
 use mathlib.Core.Path.{_≡_}
+use mathlib.Core.Bool.{Bool, true, false, cond}
 use Prim.Native.Nat.{ℕ}
+use lib.Dec.{ltb}
 use lib.ListN.{getD}
 use Rattle.std.specs.Options.{mapped}
 use Rattle.std.specs.declared.option.Option.{Option}
@@ -13,7 +15,7 @@ use Rattle.card.specs.Verdicts.{frameOf}
 use Rattle.sheet.specs.declared.types.Sheet.{Sheet}
 use Rattle.sheet.specs.declared.placement.Plan.{Plan}
 use Rattle.sheet.specs.declared.placement.Placement.{Placement}
-use Rattle.sheet.specs.Sheets.{row}
+use Rattle.sheet.specs.Sheets.{row, sharesAt}
 
 abbrev pub planned : Plan → Card × Sheet
 planned plan = (plan .card, plan .sheet)
@@ -31,6 +33,15 @@ Empty p = held p ≡ None
 abbrev pub asked : {A : Type 0} → A → (Card → Sheet → A) → Option (Card × Sheet) → A
 asked none f None = none
 asked none f (Some q) = f (q .0) (q .1)
+
+abbrev pub emptyIn : Option (Card × Sheet) → Bool
+emptyIn o = asked true (λ _ _. false) o
+
+abbrev pub cardIn : Option (Card × Sheet) → Option Card
+cardIn o = mapped (λ q. q .0) o
+
+abbrev pub sheetIn : Option (Card × Sheet) → Option Sheet
+sheetIn o = mapped (λ q. q .1) o
 
 abbrev pub coresIn : Option (Card × Sheet) → ℕ
 coresIn o = asked 0 (λ card _. card .cores) o
@@ -55,3 +66,10 @@ startIn o k = asked 0 (λ card _. begins card (frameOf (tasksOf card)) k) o
 -- the shares of interval k, from 0
 abbrev pub rowIn : Option (Card × Sheet) → ℕ → List ℕ
 rowIn o k = asked [] (λ _ sheet. row sheet k) o
+
+-- the same, and none past the last interval
+abbrev pub rowAtIn : Option (Card × Sheet) → ℕ → List ℕ
+rowAtIn o k = cond (ltb k (rowsIn o)) (rowIn o k) []
+
+abbrev pub sharesAtIn : Option (Card × Sheet) → ℕ → ℕ
+sharesAtIn o k = asked 0 (λ _ sheet. sharesAt sheet k) o

@@ -1,5 +1,9 @@
 // Sheets of shares, their judgement against a card, and accepted placements.
+mod accept;
+mod judge;
 mod placement;
+mod questions;
+mod table;
 mod types;
 
 pub use placement::Placement;

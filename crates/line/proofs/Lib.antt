@@ -1,0 +1,5 @@
+pub mod Orders
+pub mod Tells
+pub mod Numbers
+mod Places
+mod Scans

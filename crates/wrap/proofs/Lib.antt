@@ -1,0 +1,9 @@
+pub mod Steady
+pub mod Cuts
+pub mod Amounts
+pub mod Slices
+pub mod Meant
+pub mod Handing
+pub mod Loading
+pub mod Telling
+pub mod Room
