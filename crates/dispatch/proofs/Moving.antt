@@ -72,16 +72,21 @@ module _ {S : Type 0} (m : Local S) (card : Card) (sheet : Sheet) (h : ℕ) (d d
           (z, refl, subst (λ (t : Bool). Out m card h f k t (d .scheduler) z d d₂) (ok-inj first false told) b)
       answers-of (at-start f k) (told, loads, placement, books, frame, interval, loaded) =
           let a : Out m card h f k first (d₁ .scheduler) z d₁ d₂ = subst (λ (n : ℕ). Out m card h f n first (d₁ .scheduler) z d₁ d₂) interval (subst (λ (n : ℕ). Out m card h n (d₁ .interval) first (d₁ .scheduler) z d₁ d₂) frame out) in
-          let b : Out m card h f k true (d₁ .scheduler) z d₁ d₂ = subst (λ (t : Bool). Out m card h f k t (d₁ .scheduler) z d₁ d₂) (ok-inj first true told) a in
-          (z, d₁ .scheduler, refl, loads, record {
-            handed = b .handed;
-            stamp = b .stamp;
-            placement = b .placement ∙ placement;
-            frame = b .frame;
-            interval = b .interval;
-            loaded = b .loaded;
-            books = subst (λ (x : Books). Entered card x true (begins card h (k + 1) - m .left (d₁ .scheduler)) (z .slice) (d₂ .books)) books (b .books);
-          })
+          let b : Out m card h f k true (d₁ .scheduler) z d₁ d₂ = subst (λ (t : Bool). Out m card h f k t (d₁ .scheduler) z d₁ d₂) (ok-inj first true told) a in (
+            z,
+            d₁ .scheduler,
+            refl,
+            loads,
+            record {
+              handed = b .handed;
+              stamp = b .stamp;
+              placement = b .placement ∙ placement;
+              frame = b .frame;
+              interval = b .interval;
+              loaded = b .loaded;
+              books = subst (λ (x : Books). Entered card x true (begins card h (k + 1) - m .left (d₁ .scheduler)) (z .slice) (d₂ .books)) books (b .books);
+            },
+          )
       answers-of past (told, same) = absurd (ok-err first _ told)
 
   pub refused-of : (e : DispatchFault) (w : Where) → Advanced m card sheet h d (Err e) d₁ w → Answers m card sheet h d (Err e) d₁ w

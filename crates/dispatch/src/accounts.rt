@@ -165,8 +165,7 @@ impl Books {
         let switches = switches_to(&slice.seats, first, &self.seats);
         self.slices = self.slices.saturating_add(1);
         self.switches = self.switches.saturating_add(u64::from(switches));
-        self.busy = self
-            .busy
+        self.busy = self.busy
             .saturating_add(u64::from(slice.length) * u64::from(slice.busy_cores()));
         self.seats = slice.seats;
     }

@@ -133,7 +133,12 @@ impl<S: LocalScheduler> Dispatcher<S> {
     }
 
     // Acceptance and start in one call.
-    pub fn launch(card: &Card, sheet: &Sheet, scheduler: S, first: u32) -> Result<Dispatcher<S>, SheetFault>
+    pub fn launch(
+        card: &Card,
+        sheet: &Sheet,
+        scheduler: S,
+        first: u32,
+    ) -> Result<Dispatcher<S>, SheetFault>
     where
         S: Drop,
         ensures agrees { λ r. ⌜ (Lawful (now (card .entry)) → Agrees (now (card .entry)) (now (sheet .entry)) (isOk r)) ⌝ }
@@ -155,7 +160,8 @@ impl<S: LocalScheduler> Dispatcher<S> {
             return Ok(false);
         }
         let count = self.placement.interval_count();
-        let Some((frame, interval)) = next_interval(self.loaded, count, self.frame, self.interval) else {
+        let Some((frame, interval)) = next_interval(self.loaded, count, self.frame, self.interval)
+        else {
             return Err(DispatchFault::LastFrame);
         };
         load_interval(&mut self.scheduler, &self.placement, interval);

@@ -60,7 +60,11 @@ fn marked(busy: u16, core: usize, seat: u8) -> u16
     requires { ⌜ core < 16 ⌝ }
     ensures { λ r. ⌜ r ≡ cond (ltb 0 seat) (bitOr busy ((1 * 2 ^ core) % 2 ^ 16)) busy ⌝ }
 {
-    if 0 < seat { busy | (1u16 << core) } else { busy }
+    if 0 < seat {
+        busy | (1u16 << core)
+    } else {
+        busy
+    }
 }
 
 fn mask_of(seats: &[u8; 16]) -> u16

@@ -3,35 +3,43 @@ use card::Card;
 use card::Intervals;
 use card::Task;
 use dispatch::Dispatcher;
+use dispatch::Stamped;
 use local::LocalScheduler;
-use local::Slice;
 use refusal::FileFault;
-use refusal::LayerDisplay;
+use refusal::Refusal;
 use refusal::RefusalDisplay;
 use sheet::Sheet;
 use std::io;
-use wrap::Wrap;
 use wrap::WrapLocal;
 
 const CORES: u8 = 2;
+
 const TASKS: [(u32, u32); 3] = [(6, 4), (9, 6), (18, 12)];
+
 const LATER_ROWS: [u32; 9] = [2, 2, 2, 2, 2, 2, 4, 4, 4];
 
 // No frame takes more slices: 128 intervals, each with 32 shares and so at most 33 slices.
 const MAX_SLICES: u32 = 128 * 33;
 
 fn worked_card() -> Result<Card, FileFault> {
-    let mut tasks = [Task { period: 0, run_time: 0 }; 32];
+    let mut tasks = [Task {
+        period: 0,
+        run_time: 0,
+    }; 32];
     for (i, (period, run_time)) in TASKS.iter().copied().enumerate() {
         tasks[i] = Task { period, run_time };
     }
     Card::new(CORES, 3, &tasks)
 }
 
+// The sheet with this first row.
 fn worked_sheet(first: [u32; 3]) -> Result<Sheet, FileFault> {
     let mut shares = [0; 4096];
-    shares[0..3].copy_from_slice(&first);
-    shares[3..12].copy_from_slice(&LATER_ROWS);
+    for (i, share) in first.iter().chain(LATER_ROWS.iter()).enumerate() {
+        if i < shares.len() {
+            shares[i] = *share;
+        }
+    }
     Sheet::new(4, 3, &shares)
 }
 
@@ -44,4 +52,117 @@ fn print_card(rt: &LibcRuntime, card: &Card) -> io::Result<()> {
         print!(rt, " ({period}, {run_time})")?;
     }
     println!(rt, "")
+}
+
+fn print_boundaries(rt: &LibcRuntime, intervals: &Intervals) -> io::Result<()> {
+    let frame = intervals.frame();
+    print!(rt, "frame {frame}, boundaries")?;
+    for start in intervals.starts() {
+        print!(rt, " {start}")?;
+    }
+    println!(rt, "")
+}
+
+fn print_slice(rt: &LibcRuntime, cores: u8, stamped: &Stamped) -> io::Result<()> {
+    let stamp = stamped.stamp;
+    let length = stamped.slice.length;
+    print!(rt, "{stamp} {length}")?;
+    for seat in stamped.slice.seats.iter().take(usize::from(cores)) {
+        print!(rt, " {seat}")?;
+    }
+    println!(rt, "")
+}
+
+// Ticks given and still owed to the current job of each task.
+fn print_accounts<S: LocalScheduler>(
+    rt: &LibcRuntime,
+    card: &Card,
+    run: &Dispatcher<S>,
+) -> io::Result<()> {
+    print!(rt, "accounts")?;
+    for task in 1..=u32::from(card.task_count()) {
+        if let Ok((given, owed)) = run.account(task) {
+            print!(rt, " {given}+{owed}")?;
+        }
+    }
+    println!(rt, "")
+}
+
+// Frame 0 slice by slice, with the accounts at each boundary, and the tally.
+fn print_frame<S: LocalScheduler>(
+    rt: &LibcRuntime,
+    card: &Card,
+    intervals: &Intervals,
+    run: &mut Dispatcher<S>,
+) -> io::Result<()> {
+    let frame = u64::from(intervals.frame());
+    for _ in 0..MAX_SLICES {
+        let Ok(stamped) = run.next_slice() else {
+            break;
+        };
+        print_slice(rt, card.cores(), &stamped)?;
+        let end = stamped
+            .stamp
+            .saturating_add(u64::from(stamped.slice.length));
+        if end >= frame || is_boundary(intervals, end) {
+            print_accounts(rt, card, run)?;
+        }
+        if end >= frame {
+            break;
+        }
+    }
+    let (slices, switches, busy) = run.tally();
+    println!(rt, "sum {slices} {switches} {busy}")
+}
+
+fn is_boundary(intervals: &Intervals, tick: u64) -> bool {
+    for start in intervals.starts() {
+        if u64::from(*start) == tick {
+            return true;
+        }
+    }
+    false
+}
+
+fn print_refusal(rt: &LibcRuntime, refusal: Refusal) -> io::Result<()> {
+    println!(rt, "{refusal}")
+}
+
+// One sheet: its verdict, and its frame 0 where it is accepted.
+fn print_plan<S: LocalScheduler + Drop>(
+    rt: &LibcRuntime,
+    card: &Card,
+    sheet: &Sheet,
+    scheduler: S,
+) -> io::Result<()> {
+    let intervals = match card.intervals() {
+        Ok(intervals) => intervals,
+        Err(fault) => return print_refusal(rt, fault.told()),
+    };
+    print_boundaries(rt, &intervals)?;
+    let mut run = match Dispatcher::launch(card, sheet, scheduler, 0) {
+        Ok(run) => run,
+        Err(fault) => return print_refusal(rt, fault.told()),
+    };
+    println!(rt, "accepted")?;
+    print_frame(rt, card, &intervals, &mut run)
+}
+
+// The plan with this first row.
+fn print_worked(rt: &LibcRuntime, first: [u32; 3]) -> io::Result<()> {
+    let card = match worked_card() {
+        Ok(card) => card,
+        Err(fault) => return print_refusal(rt, fault.told()),
+    };
+    let sheet = match worked_sheet(first) {
+        Ok(sheet) => sheet,
+        Err(fault) => return print_refusal(rt, fault.told()),
+    };
+    print_card(rt, &card)?;
+    print_plan(rt, &card, &sheet, WrapLocal::new())
+}
+
+fn main(rt: LibcRuntime) -> io::Result<()> {
+    print_worked(&rt, [4, 4, 4])?;
+    print_worked(&rt, [4, 4, 5])
 }

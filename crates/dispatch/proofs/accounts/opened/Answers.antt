@@ -15,8 +15,9 @@ loop-i-again c =
     let xs = c .loop-i .accounts in
     let i = c .loop-i .i in
     let owes : Task → Account = λ t. record { given = 0; owed = t .«run_time» } in
-    let here : i < length xs = omega (arith, c .loop-i .inv .0, c .loop-i-test .taken) in
-    ( length-set xs i (owes (c .task .result)) ∙ c .loop-i .inv .0
-    , below-more _ i
-      (λ k l. let ne : k ≢ i = omega arith in getD-set-other xs i k (owes (c .task .result)) nothing ne ∙ c .loop-i .inv .1 k l)
-      (getD-set-same xs i (owes (c .task .result)) nothing here ∙ ap owes (c .task .ensures)) )
+    let here : i < length xs = omega (arith, c .loop-i .inv .0, c .loop-i-test .taken) in (
+      length-set xs i (owes (c .task .result)) ∙ c .loop-i .inv .0,
+      below-more _ i
+          (λ k l. let ne : k ≢ i = omega arith in getD-set-other xs i k (owes (c .task .result)) nothing ne ∙ c .loop-i .inv .1 k l)
+          (getD-set-same xs i (owes (c .task .result)) nothing here ∙ ap owes (c .task .ensures)),
+    )

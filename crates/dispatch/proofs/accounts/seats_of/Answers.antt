@@ -17,6 +17,6 @@ loop-seat-again c =
 
 pub returns : need.returns
 returns c = record {
-    count = c .loop-seat .inv .0 ∙ ap (countBy (eqb (c .args .task))) (take-all (c .loop-seat .seat-index) (c .args .seats .now) (omega (arith, c .told-seats, c .loop-seat-test .left)));
-    few = omega (arith, c .loop-seat .inv .1, c .loop-seat .kept .seat-index-end);
-  }
+  count = c .loop-seat .inv .0 ∙ ap (countBy (eqb (c .args .task))) (take-all (c .loop-seat .seat-index) (c .args .seats .now) (omega (arith, c .told-seats, c .loop-seat-test .left)));
+  few = omega (arith, c .loop-seat .inv .1, c .loop-seat .kept .seat-index-end);
+}

@@ -10,9 +10,10 @@ use Rattle.dispatch.proofs.accounts.switches.Needs as need
 pub loop-c-again : need.loop-c-again
 loop-c-again c =
     let seats = c .args .seats .now in
-    let here : c .loop-c .c < length seats = omega (arith, c .told-seats, c .loop-c-test .taken) in
-    ( omega (arith, c .loop-c .inv .0, c .switched-count .ensures .value, changed-more (c .args .before .now) seats (c .loop-c .c) here)
-    , omega (arith, c .loop-c .inv .1, c .switched-count .ensures .bound) )
+    let here : c .loop-c .c < length seats = omega (arith, c .told-seats, c .loop-c-test .taken) in (
+      omega (arith, c .loop-c .inv .0, c .switched-count .ensures .value, changed-more (c .args .before .now) seats (c .loop-c .c) here),
+      omega (arith, c .loop-c .inv .1, c .switched-count .ensures .bound),
+    )
 
 pub returns : need.returns
 returns c =

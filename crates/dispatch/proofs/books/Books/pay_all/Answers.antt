@@ -39,16 +39,17 @@ loop-i-again c =
     let ticks = c .ticks-for-ticks .ensures in
     let old : getD xs (c .from-in-loop-i .result) nothing ≡ getD (c .args .self .now .accounts) i nothing = ap (λ (n : ℕ). getD xs n nothing) (c .from-in-loop-i .ensures) ∙ c .loop-i .inv .1 i (law.le-refl i) in
     let paying : v ≡ paidTo (c .args .self .now) (c .args .first) (c .args .tick) z i (taskIn (held p) i) =
-      ap (λ (n : ℕ). pays (c .task-task .result) (c .renews .result) (getD xs (c .from-in-loop-i .result) nothing) n) ticks
-      ∙ ap (λ (a : Account). pays (c .task-task .result) (c .renews .result) a (seated z (i + 1) * z .length)) old
-      ∙ ap (λ (b : Bool). pays (c .task-task .result) b (getD (c .args .self .now .accounts) i nothing) (seated z (i + 1) * z .length)) renewed
-      ∙ ap (λ (t : Task). pays t (anew (c .args .first) (c .args .tick) t) (getD (c .args .self .now .accounts) i nothing) (seated z (i + 1) * z .length)) task in
-    let other : (k : ℕ) → k ≢ i → getD (c .pay .last .self .accounts) k nothing ≡ getD xs k nothing = λ k ne. ap (λ (ys : List Account). getD ys k nothing) after ∙ getD-set-other xs i k v nothing ne in
-    ( below-more _ i
-      (λ k l. other k (λ e. omega (arith, l, e)) ∙ c .loop-i .inv .0 k l)
-      (ap (λ (ys : List Account). getD ys i nothing) after ∙ getD-set-same xs i v nothing there ∙ paying)
-    , (λ k l. other k (λ e. omega (arith, l, e)) ∙ c .loop-i .inv .1 k (omega (arith, l)))
-    , c .pay .ensures .slices ∙ c .loop-i .inv .2
-    , c .pay .ensures .switches ∙ c .loop-i .inv .3
-    , c .pay .ensures .busy ∙ c .loop-i .inv .4
-    , c .pay .ensures .seats ∙ c .loop-i .inv .5 )
+    ap (λ (n : ℕ). pays (c .task-task .result) (c .renews .result) (getD xs (c .from-in-loop-i .result) nothing) n) ticks
+    ∙ ap (λ (a : Account). pays (c .task-task .result) (c .renews .result) a (seated z (i + 1) * z .length)) old
+    ∙ ap (λ (b : Bool). pays (c .task-task .result) b (getD (c .args .self .now .accounts) i nothing) (seated z (i + 1) * z .length)) renewed
+    ∙ ap (λ (t : Task). pays t (anew (c .args .first) (c .args .tick) t) (getD (c .args .self .now .accounts) i nothing) (seated z (i + 1) * z .length)) task in
+    let other : (k : ℕ) → k ≢ i → getD (c .pay .last .self .accounts) k nothing ≡ getD xs k nothing = λ k ne. ap (λ (ys : List Account). getD ys k nothing) after ∙ getD-set-other xs i k v nothing ne in (
+      below-more _ i
+          (λ k l. other k (λ e. omega (arith, l, e)) ∙ c .loop-i .inv .0 k l)
+          (ap (λ (ys : List Account). getD ys i nothing) after ∙ getD-set-same xs i v nothing there ∙ paying),
+      (λ k l. other k (λ e. omega (arith, l, e)) ∙ c .loop-i .inv .1 k (omega (arith, l))),
+      c .pay .ensures .slices ∙ c .loop-i .inv .2,
+      c .pay .ensures .switches ∙ c .loop-i .inv .3,
+      c .pay .ensures .busy ∙ c .loop-i .inv .4,
+      c .pay .ensures .seats ∙ c .loop-i .inv .5,
+    )

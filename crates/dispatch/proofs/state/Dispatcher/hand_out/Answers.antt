@@ -12,7 +12,7 @@ returns g c = λ card sheet h.
     let d = c .args .self .now in
     let m = g .S·LocalScheduler .meaning in
     let tick : c .saturating-sub-tick .result ≡ begins card (frameOf (tasksOf card)) (d .interval + 1) - m .left (d .scheduler) =
-      c .saturating-sub-tick .ensures ∙ (λ i. c .start-end .ensures i - c .ticks-left .ensures i) ∙ ap (λ (n : ℕ). startIn (held (d .placement)) (n + 1) - m .left (d .scheduler)) (c .from .ensures) ∙ ap (λ o. startIn o (d .interval + 1) - m .left (d .scheduler)) h in
+    c .saturating-sub-tick .ensures ∙ (λ i. c .start-end .ensures i - c .ticks-left .ensures i) ∙ ap (λ (n : ℕ). startIn (held (d .placement)) (n + 1) - m .left (d .scheduler)) (c .from .ensures) ∙ ap (λ o. startIn o (d .interval + 1) - m .left (d .scheduler)) h in
     record {
       handed = c .take-choice-slice .ensures;
       stamp = c .stamp .ensures ∙ ap (λ (n : ℕ). stampOf n (d .frame) (c .saturating-sub-tick .result)) (c .frame .ensures ∙ ap frameIn h) ∙ ap (stampOf (frameOf (tasksOf card)) (d .frame)) tick;

@@ -41,8 +41,8 @@ returns g c =
     record {
       empty = λ e. absurd (not-empty (held (d .placement)) (sym (c .if-is-empty .ensures tt)) e);
       filled = λ card sheet h.
-        let a = c .in-Continue-first .ensures tt card sheet h in
-        let w = whereNext m (sheet .rows) d in
-        let there : Holds (d₁ .placement) card sheet = ap held (placed m card sheet (frameOf (tasksOf card)) d d₁ (c .in-Continue-first .first) w a) ∙ h in
-        (frameOf (tasksOf card), good-held (d .placement) card sheet h .frame, answers-of m card sheet (frameOf (tasksOf card)) d d₁ (c .in-Continue-first .first) (c .hand-out .result) (c .hand-out .last .self) (c .hand-out .ensures card sheet there) w a);
+          let a = c .in-Continue-first .ensures tt card sheet h in
+          let w = whereNext m (sheet .rows) d in
+          let there : Holds (d₁ .placement) card sheet = ap held (placed m card sheet (frameOf (tasksOf card)) d d₁ (c .in-Continue-first .first) w a) ∙ h in
+          (frameOf (tasksOf card), good-held (d .placement) card sheet h .frame, answers-of m card sheet (frameOf (tasksOf card)) d d₁ (c .in-Continue-first .first) (c .hand-out .result) (c .hand-out .last .self) (c .hand-out .ensures card sheet there) w a);
     }

@@ -1,0 +1,24 @@
+use mathlib.Core.Path.{refl}
+use lib.Dec.{lit≤}
+use Prim.{tt}
+use Rattle.examples.proofs.worked_examples.Needs as need
+
+pub returns : need.returns
+returns c = record {
+  frame-18 = refl;
+  four-intervals = refl;
+  frame-4 = refl;
+  one-interval = refl;
+  many-intervals = refl;
+  just-lawful = refl;
+  too-many = refl;
+  too-long = refl;
+  accepted = refl;
+  overfull = refl;
+  wrong-total = refl;
+  wrapped = refl;
+  full = record { limits = (lit≤ tt, lit≤ tt, lit≤ tt, lit≤ tt, lit≤ tt); narrow = (lit≤ tt, (lit≤ tt, tt)); room = lit≤ tt };
+  no-shares = refl;
+  late-frame = refl;
+  next-frame = refl;
+}
