@@ -18,9 +18,9 @@ use Rattle.refusal.specs.declared.CardFault.the-variants.{Boundaries}
 use Rattle.card.specs.declared.types.Card.{Card}
 use Rattle.card.specs.declared.types.Intervals.{Intervals}
 use Rattle.card.specs.declared.types.Task.{Task}
-use Rattle.card.specs.Cards.{Frame, tasksOf, nobody, boundaries}
+use Rattle.card.specs.Cards.{Frame, tasksOf, nobody, boundaries, releases}
 use Rattle.card.specs.Lawful.{Lawful, Exactly}
-use Rattle.card.specs.Lines.{Periods, releases}
+use Rattle.card.specs.Lines.{Periods}
 use Rattle.card.specs.Times.{Times, startsOf}
 use Rattle.card.specs.Verdicts.{Judged, fine, frameOf, judgedTasks, judgedCard}
 use Rattle.card.proofs.CardsJudged.{Sound, ok-tasks, ok-lawful, lawful-frame, lawful-exactly}

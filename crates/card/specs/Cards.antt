@@ -22,12 +22,19 @@ periodOf card i = getD (tasksOf card) i nobody .period
 abbrev pub runTime : Card → ℕ → ℕ
 runTime card i = getD (tasksOf card) i nobody .«run_time»
 
--- the window of job j of task i: from its release up to, but not including, the next
+-- the window of job j of a task: from its release up to, but not including, the next
+abbrev pub opensOf : Task → ℕ → ℕ
+opensOf t j = j * t .period
+
+abbrev pub closesOf : Task → ℕ → ℕ
+closesOf t j = (j + 1) * t .period
+
+-- the same of task i
 abbrev pub opens : Card → ℕ → ℕ → ℕ
-opens card i j = j * periodOf card i
+opens card i j = opensOf (getD (tasksOf card) i nobody) j
 
 abbrev pub closes : Card → ℕ → ℕ → ℕ
-closes card i j = (j + 1) * periodOf card i
+closes card i j = closesOf (getD (tasksOf card) i nobody) j
 
 abbrev pub divides : ℕ → ℕ → Bool
 divides a b = eqb (b % a) 0
@@ -46,9 +53,13 @@ released (t ∷ ts) tick = divides (t .period) tick || released ts tick
 abbrev pub boundary : Card → ℕ → Bool
 boundary card tick = released (tasksOf card) tick
 
--- the boundaries below h, rising
+-- the ticks below h at which some task is released, rising
+abbrev pub releases : List Task → ℕ → List ℕ
+releases ts h = kept-by (released ts) (counting 0 h)
+
+-- the boundaries of a card with the frame length h
 abbrev pub boundaries : Card → ℕ → List ℕ
-boundaries card h = kept-by (boundary card) (counting 0 h)
+boundaries card h = releases (tasksOf card) h
 
 -- where interval k begins, and, for the number of the intervals, where the last one ends
 abbrev pub begins : Card → ℕ → ℕ → ℕ

@@ -20,8 +20,8 @@ use Rattle.card.specs.Times.{Times, startOf}
 use Rattle.card.specs.Verdicts.{Judged, fine, orElse}
 use Rattle.card.proofs.Bounds.{frame-marked, period-some}
 use Rattle.sheet.specs.declared.types.Sheet.{Sheet}
-use Rattle.sheet.specs.Tellings.{Tells, rowsBy, tasksBy}
-use Rattle.sheet.specs.Verdicts.{judgedSheet}
+use Rattle.sheet.specs.Tellings.{Tells}
+use Rattle.sheet.specs.Verdicts.{rowsBy, tasksBy, judgedSheet}
 use Rattle.sheet.proofs.Answered.{sheet-bad}
 use Rattle.sheet.proofs.Spans.{next}
 

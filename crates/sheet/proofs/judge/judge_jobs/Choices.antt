@@ -1,6 +1,6 @@
 use Prim.Native.Nat.{_/_}
 use Rattle.card.specs.Times.{startOf}
-use Rattle.sheet.specs.Tellings.{jobBy}
+use Rattle.sheet.specs.Verdicts.{jobBy}
 use Rattle.sheet.proofs.Turns.{Left}
 use Rattle.sheet.proofs.judge.judge_jobs.Given as given
 

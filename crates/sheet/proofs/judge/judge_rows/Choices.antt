@@ -1,5 +1,5 @@
 use Rattle.card.specs.Times.{startOf}
-use Rattle.sheet.specs.Tellings.{intervalBy}
+use Rattle.sheet.specs.Verdicts.{intervalBy}
 use Rattle.sheet.proofs.Turns.{Left}
 use Rattle.sheet.proofs.judge.judge_rows.Given as given
 

@@ -4,7 +4,8 @@ use lib.ListN.{getD}
 use Rattle.card.specs.declared.types.Task.{Task}
 use Rattle.card.specs.Cards.{tasksOf, nobody}
 use Rattle.card.specs.Times.{startOf}
-use Rattle.sheet.specs.Tellings.{Tells, jobsBy}
+use Rattle.sheet.specs.Tellings.{Tells}
+use Rattle.sheet.specs.Verdicts.{jobsBy}
 use Rattle.sheet.proofs.judge.judge_task.Needs as need
 
 pub returns : need.returns

@@ -1,5 +1,5 @@
 use Rattle.card.specs.Times.{startOf}
-use Rattle.sheet.specs.Tellings.{taskBy}
+use Rattle.sheet.specs.Verdicts.{taskBy}
 use Rattle.sheet.proofs.Turns.{Left}
 use Rattle.sheet.proofs.judge.judge_tasks.Given as given
 

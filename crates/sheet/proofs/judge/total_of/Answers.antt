@@ -9,7 +9,7 @@ use Rattle.std.proofs.shelf.Counted.{length-counting, getD-counting}
 use Rattle.std.proofs.shelf.Lists.{take-all}
 use Rattle.std.proofs.shelf.Sums.{sumBy-more}
 use Rattle.card.specs.Times.{startOf}
-use Rattle.sheet.specs.Tellings.{partBy}
+use Rattle.sheet.specs.Verdicts.{partBy}
 use Rattle.sheet.proofs.judge.total_of.Needs as need
 
 pub loop-k-again : need.loop-k-again

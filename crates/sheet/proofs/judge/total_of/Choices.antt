@@ -4,7 +4,7 @@ use lib.ListN.{take}
 use Rattle.std.specs.Iters.{counting}
 use Rattle.std.specs.shelf.Lists.{sumBy}
 use Rattle.card.specs.Times.{startOf}
-use Rattle.sheet.specs.Tellings.{partBy}
+use Rattle.sheet.specs.Verdicts.{partBy}
 use Rattle.sheet.proofs.judge.total_of.Given as given
 
 abbrev pub Inv-loop-k : given.InvT-loop-k

@@ -6,8 +6,7 @@ use lib.ListN.{length}
 use Rattle.std.proofs.shelf.Results.{cases-weaker, err-from-errBy}
 use Rattle.refusal.specs.Table.{cardTold, numbered}
 use Rattle.card.specs.declared.types.Task.{Task}
-use Rattle.card.specs.Cards.{tasksOf}
-use Rattle.card.specs.Lines.{releases}
+use Rattle.card.specs.Cards.{tasksOf, releases}
 use Rattle.card.specs.Verdicts.{fine, frameOf, judgedTasks}
 use Rattle.card.proofs.Checks.{Answered, answered-exactly, sound-tasks, task-fault, crowd-fault, no-fault}
 use Rattle.card.proofs.types.Card.intervals.Needs as need
