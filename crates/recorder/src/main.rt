@@ -63,6 +63,14 @@ fn print_boundaries(rt: &LibcRuntime, intervals: &Intervals) -> io::Result<()> {
     println!(rt, "")
 }
 
+// The scheduler's letter, M, N and K.
+fn print_head(rt: &LibcRuntime, letter: char, card: &Card, sheet: &Sheet) -> io::Result<()> {
+    let cores = card.cores();
+    let tasks = card.task_count();
+    let rows = sheet.rows();
+    println!(rt, "{letter} {cores} {tasks} {rows}")
+}
+
 fn print_slice(rt: &LibcRuntime, cores: u8, stamped: &Stamped) -> io::Result<()> {
     let stamp = stamped.stamp;
     let length = stamped.slice.length;
@@ -145,6 +153,7 @@ fn print_plan<S: LocalScheduler + Drop>(
         Err(fault) => return print_refusal(rt, fault.told()),
     };
     println!(rt, "accepted")?;
+    print_head(rt, S::mark(), card, sheet)?;
     print_frame(rt, card, &intervals, &mut run)
 }
 
