@@ -1,6 +1,8 @@
-// Refusals of cards, sheets and loads, one line each, and the slices of some loads under wrap-round.
+// Refusals of cards, sheets and loads, one line each, and the slices of some loads under each scheduler.
 use card::Card;
 use card::Task;
+use izl::Izl;
+use izl::IzlLocal;
 use local::LocalScheduler;
 use refusal::FileFault;
 use refusal::Refusal;
@@ -141,8 +143,21 @@ fn print_loads<S: LocalScheduler>(rt: &LibcRuntime, scheduler: &mut S) -> io::Re
     print_load(rt, scheduler, 2, 6, &[7])
 }
 
+// Loads that tell IZL's rule from rules that are nearly it.
+fn print_telling(rt: &LibcRuntime, izl: &mut Izl) -> io::Result<()> {
+    print_load(rt, izl, 1, 2, &[1, 1])?;
+    print_load(rt, izl, 3, 3, &[1, 1, 3, 3])?;
+    print_load(rt, izl, 2, 3, &[1, 1, 2, 1])?;
+    print_load(rt, izl, 1, 2, &[1])?;
+    print_load(rt, izl, 2, 2, &[1, 1, 1])?;
+    print_load(rt, izl, 3, 3, &[1, 1, 1, 1, 2])
+}
+
 fn main(rt: LibcRuntime) -> io::Result<()> {
     print_cards(&rt)?;
     print_plans(&rt)?;
-    print_loads(&rt, &mut WrapLocal::new())
+    print_loads(&rt, &mut WrapLocal::new())?;
+    let mut izl = IzlLocal::new();
+    print_loads(&rt, &mut izl)?;
+    print_telling(&rt, &mut izl)
 }

@@ -13,7 +13,7 @@ use Rattle.card.specs.declared.types.Card.{Card}
 use Rattle.card.specs.declared.types.Task.{Task}
 use Rattle.card.specs.Cards.{nobody}
 use Rattle.sheet.specs.declared.types.Sheet.{Sheet}
-use Rattle.wrap.specs.Wrap.{Interval, choice, after}
+use Rattle.local.specs.declared.slice.Slice.{Slice}
 
 -- a list with so many entries of one kind behind it
 pub filled : {X : Type 0} (xs : List X) (n : ℕ) (d : X) → length xs ≤ n → length (xs ++ replicate (n - length xs) d) ≡ n
@@ -56,7 +56,7 @@ sheetOf rows count shares some few some-shares few-shares whole within = record 
   rest = λ i l. behind shares (4096 - length shares) i 0 (omega (arith, whole, l));
 }
 
--- at most n slices of an interval under wrap-round, each with the seats of its cores
-abbrev pub slices : ℕ → Interval → List (ℕ × List ℕ)
-slices zero v = []
-slices (suc n) v = cond (eqb (v .left) 0) [] ((choice v .length, take (v .width) (choice v .seats)) ∷ slices n (after v))
+-- at most n slices from a state on, each with the seats of its cores, by a rule's ticks left, choice and next state
+abbrev pub slices : {V : Type 0} → (V → ℕ) → (V → Slice) → (V → V) → (width n : ℕ) → V → List (ℕ × List ℕ)
+slices left choice after width zero v = []
+slices left choice after width (suc n) v = cond (eqb (left v) 0) [] ((choice v .length, take width (choice v .seats)) ∷ slices left choice after width n (after v))

@@ -1,6 +1,6 @@
 -- The worked examples.
 use mathlib.Core.Path.{_≡_}
-use mathlib.Core.List.{[], _∷_}
+use mathlib.Core.List.{List, [], _∷_}
 use Prim.Native.Nat.{ℕ}
 use lib.Dec.{lit≤}
 use lib.ListN.{length}
@@ -14,7 +14,8 @@ use Rattle.card.specs.Verdicts.{fine, frameOf, judgedCard}
 use Rattle.sheet.specs.declared.types.Sheet.{Sheet}
 use Rattle.sheet.specs.Verdicts.{judged}
 use Rattle.local.specs.Meaning.{Fit}
-use Rattle.wrap.specs.Wrap.{loaded}
+use Rattle.wrap.specs.Wrap as wrap
+use Rattle.izl_rule.specs.Rule as izl
 use Rattle.dispatch.specs.Counts.{frameStart}
 use Rattle.examples.specs.Samples.{task, cardOf, sheetOf, slices}
 
@@ -33,6 +34,13 @@ plan = cardOf 2 (task 6 4 ∷ task 9 6 ∷ task 18 12 ∷ []) (lit≤ tt) (lit�
 abbrev pub withFirst : ℕ → ℕ → ℕ → Sheet
 withFirst a b c = sheetOf 4 3 (a ∷ b ∷ c ∷ 2 ∷ 2 ∷ 2 ∷ 2 ∷ 2 ∷ 2 ∷ 4 ∷ 4 ∷ 4 ∷ []) (lit≤ tt) (lit≤ tt) (lit≤ tt) (lit≤ tt) refl (lit≤ tt)
 
+-- the slices of a load, at most n, under each scheduler
+abbrev pub wrapped : (width len n : ℕ) → List ℕ → List (ℕ × List ℕ)
+wrapped width len n shares = slices (λ v. v .left) wrap.choice wrap.after width n (wrap.loaded width len shares)
+
+abbrev pub byIzl : (width len n : ℕ) → List ℕ → List (ℕ × List ℕ)
+byIzl width len n shares = slices (λ s. s .left) izl.choice izl.after width n (izl.load width len shares)
+
 abbrev pub frame : Card → ℕ
 frame card = frameOf (tasksOf card)
 
@@ -48,8 +56,10 @@ pub record Worked : Type 0 where
   pub accepted : judged plan (withFirst 4 4 4) ≡ fine
   pub overfull : numbered (judged plan (withFirst 4 4 5)) ≡ refusal layer.Sheet 23 1 0
   pub wrong-total : numbered (judged plan (withFirst 4 5 3)) ≡ refusal layer.Sheet 24 2 1
-  pub wrapped : slices 4 (loaded 2 6 (1 ∷ 2 ∷ 5 ∷ [])) ≡ (1, 1 ∷ 3 ∷ []) ∷ (1, 2 ∷ 3 ∷ []) ∷ (1, 2 ∷ 0 ∷ []) ∷ (3, 3 ∷ 0 ∷ []) ∷ []
+  pub izl-three : byIzl 2 6 3 (1 ∷ 2 ∷ 5 ∷ []) ≡ (1, 1 ∷ 2 ∷ []) ∷ (1, 2 ∷ 3 ∷ []) ∷ (4, 0 ∷ 3 ∷ []) ∷ []
+  pub wrap-three : wrapped 2 6 4 (1 ∷ 2 ∷ 5 ∷ []) ≡ (1, 1 ∷ 3 ∷ []) ∷ (1, 2 ∷ 3 ∷ []) ∷ (1, 2 ∷ 0 ∷ []) ∷ (3, 3 ∷ 0 ∷ []) ∷ []
   pub full : Fit 2 6 (6 ∷ 6 ∷ [])
-  pub no-shares : slices 2 (loaded 2 6 []) ≡ (6, 0 ∷ 0 ∷ []) ∷ []
+  pub izl-none : byIzl 2 6 2 [] ≡ (6, 0 ∷ 0 ∷ []) ∷ []
+  pub wrap-none : wrapped 2 6 2 [] ≡ (6, 0 ∷ 0 ∷ []) ∷ []
   pub late-frame : frameStart (frame (single 1000)) 4294967 ≡ 4294967000
   pub next-frame : frameStart (frame (single 1000)) 4294968 ≡ 4294968000

@@ -4,10 +4,12 @@ use card::Intervals;
 use card::Task;
 use dispatch::Dispatcher;
 use dispatch::Stamped;
+use izl::IzlLocal;
 use local::LocalScheduler;
 use refusal::FileFault;
 use refusal::Refusal;
 use refusal::RefusalDisplay;
+use sheet::Placement;
 use sheet::Sheet;
 use std::io;
 use wrap::WrapLocal;
@@ -136,25 +138,36 @@ fn print_refusal(rt: &LibcRuntime, refusal: Refusal) -> io::Result<()> {
     println!(rt, "{refusal}")
 }
 
-// One sheet: its verdict, and its frame 0 where it is accepted.
+// Frame 0 of a sheet under one scheduler, or its refusal.
 fn print_plan<S: LocalScheduler + Drop>(
     rt: &LibcRuntime,
     card: &Card,
+    intervals: &Intervals,
     sheet: &Sheet,
     scheduler: S,
 ) -> io::Result<()> {
+    match Dispatcher::launch(card, sheet, scheduler, 0) {
+        Ok(mut run) => {
+            print_head(rt, S::mark(), card, sheet)?;
+            print_frame(rt, card, intervals, &mut run)
+        }
+        Err(fault) => print_refusal(rt, fault.told()),
+    }
+}
+
+// The verdict on a sheet, and where it is accepted its frame 0 under each scheduler.
+fn print_verdict(rt: &LibcRuntime, card: &Card, sheet: &Sheet) -> io::Result<()> {
     let intervals = match card.intervals() {
         Ok(intervals) => intervals,
         Err(fault) => return print_refusal(rt, fault.told()),
     };
     print_boundaries(rt, &intervals)?;
-    let mut run = match Dispatcher::launch(card, sheet, scheduler, 0) {
-        Ok(run) => run,
-        Err(fault) => return print_refusal(rt, fault.told()),
-    };
+    if let Err(fault) = Placement::new().accept(card, sheet) {
+        return print_refusal(rt, fault.told());
+    }
     println!(rt, "accepted")?;
-    print_head(rt, S::mark(), card, sheet)?;
-    print_frame(rt, card, &intervals, &mut run)
+    print_plan(rt, card, &intervals, sheet, IzlLocal::new())?;
+    print_plan(rt, card, &intervals, sheet, WrapLocal::new())
 }
 
 // The plan with this first row.
@@ -168,7 +181,7 @@ fn print_worked(rt: &LibcRuntime, first: [u32; 3]) -> io::Result<()> {
         Err(fault) => return print_refusal(rt, fault.told()),
     };
     print_card(rt, &card)?;
-    print_plan(rt, &card, &sheet, WrapLocal::new())
+    print_verdict(rt, &card, &sheet)
 }
 
 fn main(rt: LibcRuntime) -> io::Result<()> {

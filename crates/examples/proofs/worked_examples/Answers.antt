@@ -16,9 +16,11 @@ returns c = record {
   accepted = refl;
   overfull = refl;
   wrong-total = refl;
-  wrapped = refl;
+  izl-three = refl;
+  wrap-three = refl;
   full = record { limits = (lit≤ tt, lit≤ tt, lit≤ tt, lit≤ tt, lit≤ tt); narrow = (lit≤ tt, (lit≤ tt, tt)); room = lit≤ tt };
-  no-shares = refl;
+  izl-none = refl;
+  wrap-none = refl;
   late-frame = refl;
   next-frame = refl;
 }
