@@ -1,0 +1,10 @@
+pub mod Feet
+pub mod Parts
+pub mod Agreed
+pub mod Whole
+pub mod Written
+pub mod Pieces
+pub mod Sizes
+pub mod Returned
+pub mod Verdicts
+pub mod Same
