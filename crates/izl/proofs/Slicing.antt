@@ -1,16 +1,13 @@
 -- Seats and amounts, told of parts of the tables.
 use mathlib.Core.Path.{_≡_, refl, sym, ap, subst, _∙_}
-use mathlib.Core.HLevel.{isProp→PathP}
 use mathlib.Core.List.{List, [], _∷_, _++_}
 use Prim.Native.Nat.{ℕ, _+_, _-_, _^_, _<_, _≤_}
-use native.Mathlib.Nat.{sub-zero, ℕ-set}
+use native.Mathlib.Nat.{sub-zero}
 use native.Mathlib.Omega.{arith}
 use lib.ListN.{length, getD, take, drop, set, replicate}
 use Rattle.std.specs.shelf.Lists.{All}
 use Rattle.std.proofs.shelf.Lists.{drop-more}
 use Rattle.std.proofs.shelf.Elements.{all-weaker}
-use Rattle.local.specs.Masks.{mask}
-use Rattle.local.specs.declared.slice.Slice.{Slice}
 use Rattle.izl_rule.specs.declared.Running.{Running}
 use Rattle.izl_rule.specs.Rule.{nobody, row, seats, runningOf, waitingOf}
 use Rattle.izl_rule.specs.Invariant.{Held, merged}
@@ -74,10 +71,3 @@ module _ (t : Tables) (h : Held (merged (view t))) where
 
     pub taken-fits : t .left < 2 ^ 32 → runningOf task (take (t .out - 0) (t .taken)) < 2 ^ 32
     taken-fits l = omega (arith, taken-is, all-fit l)
-
--- a slice is told by its length and seats
-pub slice-same : (z z′ : Slice) → z .length ≡ z′ .length → z .seats ≡ z′ .seats → z ≡ z′
-slice-same z z′ a b = λ i. record { length = a i; seats = b i; busy = c i; masked = isProp→PathP (λ k. c k ≡ mask (b k)) (λ k. ℕ-set (c k) (mask (b k))) (z .masked) (z′ .masked) i }
-  where
-    c : z .busy ≡ z′ .busy
-    c = z .masked ∙ ap mask b ∙ sym (z′ .masked)

@@ -1,2 +1,3 @@
 pub mod Masks
 pub mod Intervals
+pub mod Slices

@@ -1,11 +1,8 @@
 -- The clauses of a local scheduler, told of the code's state.
-use mathlib.Core.Path.{_≡_, sym, ap, subst, _∙_}
-use mathlib.Core.HLevel.{isProp→PathP}
+use mathlib.Core.Path.{_≡_, sym, subst}
 use mathlib.Core.List.{List}
 use Prim.Native.Nat.{ℕ, _≤_}
-use native.Mathlib.Nat.{ℕ-set}
 use native.Mathlib.Omega.{arith}
-use Rattle.local.specs.Masks.{mask}
 use Rattle.local.specs.Meaning.{Handed, Fit, Loaded}
 use Rattle.local.specs.declared.slice.Slice.{Slice}
 use Rattle.wrap.specs.declared.state.Wrap.{Wrap}
@@ -14,13 +11,6 @@ use Rattle.wrap.specs.Told.{view, told}
 use Rattle.wrap.proofs.Meant.{meant, Good}
 use Rattle.wrap.proofs.Handing.{handed, laid}
 use Rattle.wrap.proofs.Loading.{line-sum, under-largest, load-told}
-
--- a slice is told by its length and seats
-pub slice-same : (z z′ : Slice) → z .length ≡ z′ .length → z .seats ≡ z′ .seats → z ≡ z′
-slice-same z z′ a b = λ i. record { length = a i; seats = b i; busy = c i; masked = isProp→PathP (λ k. c k ≡ mask (b k)) (λ k. ℕ-set (c k) (mask (b k))) (z .masked) (z′ .masked) i }
-  where
-    c : z .busy ≡ z′ .busy
-    c = z .masked ∙ ap mask b ∙ sym (z′ .masked)
 
 pub good : (s : Wrap) → Good (view s)
 good s = record { wide = s .wide; within = s .within; size = s .full; narrow = λ i. omega (arith, under-largest (s .shares) i, s .narrow); room = omega (arith, line-sum (s .shares), s .room) }

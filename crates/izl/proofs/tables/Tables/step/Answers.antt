@@ -3,7 +3,7 @@ use Rattle.izl_rule.specs.Rule.{State, settled}
 use Rattle.izl_rule.specs.Invariant.{Held, merged}
 use Rattle.izl_rule.proofs.Passages.{a-passage}
 use Rattle.izl.specs.View.{view}
-use Rattle.izl.proofs.Slicing.{slice-same}
+use Rattle.local.proofs.Slices.{slice-same}
 use Rattle.izl.proofs.tables.Tables.step.Needs as need
 
 pub settle-requires : need.settle-requires

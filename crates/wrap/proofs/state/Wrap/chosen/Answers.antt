@@ -3,7 +3,7 @@ use Prim.Native.Nat.{ℕ, _-_}
 use native.Mathlib.Omega.{arith}
 use Rattle.wrap.specs.Wrap.{nextCut}
 use Rattle.wrap.proofs.Cuts.{next-least}
-use Rattle.wrap.proofs.Telling.{slice-same}
+use Rattle.local.proofs.Slices.{slice-same}
 use Rattle.wrap.proofs.state.Wrap.chosen.Needs as need
 
 pub sub-next-cut : need.sub-next-cut
