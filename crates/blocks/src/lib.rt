@@ -1,4 +1,6 @@
 // A frame under one scheduler as text: a head line, a line for each slice, and their sum.
+#![tactic(auto)]
+
 ghost use Rattle.std.specs.Prelude.{◌≡◌, ◌≤◌, IfOk, string_bytes};
 ghost use Rattle.blocks.specs.Blocks.{block_text, line_text};
 ghost use Rattle.text.specs.Lines.{head_text, sum_text};

@@ -1,4 +1,6 @@
 // Cards of tasks: frame length, boundaries and windows, and when a card is lawful.
+#![tactic(auto)]
+
 ghost use Rattle.std.specs.Prelude.{◌≡◌, ℕ, ◌+◌, ◌*◌, ◌/◌, ◌≤◌, ◌&&◌, length, take, is_ok, MatchResult, nat_le, slice_index_or};
 ghost use Rattle.refusal.specs.Table.{card_told, file_told, numbered, refusal};
 ghost use Rattle.refusal.specs.declared.Layer.TheVariants.{File};

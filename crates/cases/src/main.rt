@@ -1,4 +1,6 @@
 // Refusals of cards, sheets and loads, one line each, and the slices of some loads under each scheduler.
+#![tactic(auto)]
+
 use card::{Card, Task};
 use izl::Izl;
 use local::LocalScheduler;

@@ -1,1 +1,2 @@
 // Definitions and lemmas alone: charts of ticks and cores, sums, and shares laid end to end.
+#![tactic(auto)]

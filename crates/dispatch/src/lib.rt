@@ -1,4 +1,6 @@
 // The dispatcher: it hands out the slices of an accepted placement, frame by frame, and accounts for them.
+#![tactic(auto)]
+
 ghost use Rattle.std.specs.Prelude.{◌≡◌, ℕ, ◌+◌, ◌-◌, ◌<◌, ◌≤◌, true, false, List, is_ok, IfOk, MatchResult, ◌==◌};
 ghost use Rattle.card.specs.Cards.{span, tasks_of};
 ghost use Rattle.card.specs.Lawful.{Exactly, Lawful};

@@ -1,4 +1,6 @@
 // The worked examples, as one theorem over the table of them, and an instance of all that a run's promise asks for.
+#![tactic(auto)]
+
 ghost use Rattle.std.specs.Prelude.{◌≡◌};
 ghost use Rattle.dispatch.specs.Counts.{frame_start};
 ghost use Rattle.examples.specs.Instance.{Running, smallest};

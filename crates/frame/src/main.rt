@@ -1,4 +1,6 @@
 // Reads a plan on standard input, and prints its frame 0 under each local scheduler, or the refusal.
+#![tactic(auto)]
+
 use output::{MOST, frame_text};
 use std::io;
 use std::io::Read;

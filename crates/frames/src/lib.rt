@@ -1,4 +1,6 @@
 // One frame of a plan as values: its slices and its tally.
+#![tactic(auto)]
+
 ghost use Rattle.std.specs.Prelude.{◌≡◌, ◌≤◌, MatchResult};
 ghost use Rattle.card.specs.Verdicts.{fine};
 ghost use Rattle.frames.specs.Frames.{FrameOf, HasFrame};

@@ -1,4 +1,5 @@
 // The rule of IZL: definitions and lemmas alone.
+#![tactic(auto)]
 
 // A task in the waiting queue, ordered by what is left of it, then by its number.
 #[derive(Clone, Copy, PartialEq, Eq, PartialOrd, Ord)]

@@ -1,4 +1,6 @@
 // What a local scheduler means: it hands out the slices of one interval after another.
+#![tactic(auto)]
+
 ghost use Rattle.std.specs.Prelude.{◌≡◌, ℕ, ◌+◌, ◌*◌, ◌/◌, ◌%◌, ◌^◌, ◌<◌, ◌≤◌, true, false, if◌then◌else◌, MatchResult, bit_or, count_ones, nat_lt, slice_index};
 ghost use Rattle.refusal.specs.Table.{local_told, refusal};
 ghost use Rattle.refusal.specs.declared.Layer.TheVariants.{Local as LocalLayer};
@@ -80,7 +82,7 @@ fn ones_of(busy: u16) -> u32
 impl Slice {
     // The only place where a slice is made.
     pub fn new(length: u32, seats: [u8; 16]) -> Slice
-        ensures length_value { (result.length ≡ length) × (result.seats ≡ seats) }
+        ensures fields { (result.length ≡ length) × (result.seats ≡ seats) }
         ensures tells { (c : ℕ) → c < 16 → result.busy / 2 ^ c % 2 ≡ bit (slice_index result.seats c) }
     {
         let busy = mask_of(&seats);

@@ -1,4 +1,6 @@
 // All that the program `frame` prints for the bytes of a plan: frame 0 under each scheduler, or the refusal.
+#![tactic(auto)]
+
 ghost use Rattle.std.specs.Prelude.{◌≡◌, take, IfOk, string_bytes, MatchResult};
 ghost use Rattle.card.specs.Verdicts.{fine};
 ghost use Rattle.frames.specs.Frames.{Told};

@@ -1,4 +1,6 @@
 // Plan files: the reader and the writer.
+#![tactic(auto)]
+
 mod coding;
 mod reader;
 mod trailer;

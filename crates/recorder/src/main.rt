@@ -1,4 +1,6 @@
 // Judges a worked plan of three tasks on two cores and hands out its frame 0, then the same with one share more.
+#![tactic(auto)]
+
 use card::{Card, Intervals, Task};
 use dispatch::{Dispatcher, Stamped};
 use local::LocalScheduler;

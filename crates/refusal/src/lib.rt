@@ -1,4 +1,6 @@
 // Every refusal of the library, and the one table of their numbers.
+#![tactic(auto)]
+
 ghost use Rattle.std.specs.Prelude.{◌≡◌, Some};
 ghost use Rattle.refusal.specs.Table.{file_told, card_told, sheet_told, local_told, dispatch_told, layer_text, refusal_text};
 ghost use Rattle.refusal.specs.declared.CardFault.TheVariants.{File};

@@ -1,4 +1,6 @@
 // Sheets of shares, their judgement against a card, and accepted placements.
+#![tactic(auto)]
+
 mod accept;
 mod judge;
 mod placement;

@@ -1,4 +1,6 @@
 // From the bytes of a plan file to a running dispatcher.
+#![tactic(auto)]
+
 ghost use Rattle.std.specs.Prelude.{◌≡◌, Err, MatchResult, ◌≢◌};
 ghost use Rattle.card.specs.Verdicts.{fine};
 ghost use Rattle.dispatch.specs.Launched.{Launched};

@@ -1,4 +1,6 @@
 // The lines that a program prints of a frame, each ended by a line feed.
+#![tactic(auto)]
+
 ghost use Rattle.std.specs.Prelude.{◌≡◌, ◌≤◌, take, Some};
 ghost use Rattle.text.specs.Lines.{head_text, slice_text, sum_text, refused_text, seat_text};
 

@@ -1,4 +1,6 @@
 // Runs plan files through the library and compares what it makes of them with what an independent program made from the rules.
+#![tactic(auto)]
+
 ghost use Rattle.std.specs.Prelude.{◌≡◌, true, take, IfOk};
 ghost use Rattle.output.specs.Printed.{Printed};
 

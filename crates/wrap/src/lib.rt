@@ -1,4 +1,6 @@
 // Wrap-round: the shares of an interval are laid end to end over its cores, and slices are cut where a share ends.
+#![tactic(auto)]
+
 ghost use Rattle.std.specs.Prelude.{◌≡◌, ℕ, ◌≤◌, IfOk, MatchResult};
 ghost use Rattle.refusal.specs.Table.{local_told, refusal};
 ghost use Rattle.refusal.specs.declared.Layer.TheVariants.{Local as LocalLayer};

@@ -17,7 +17,7 @@ loop-share-preserved c =
     let m = sum_by_more (λ (x : ℕ). x) c.args.shares.now c.loop-share.share-index 0 c.loop-share-test.true in (
       All-more (λ (x : ℕ). x ≤ c.args.length) c.args.shares.now c.loop-share.share-index 0 c.loop-share-test.true c.loop-share.invariant.0 c.if-share-length.false,
       omega (arith, c.loop-share.invariant.1, c.from-sum.ensures, m),
-      omega (arith, c.loop-share.invariant.2, c.from-sum.ensures, c.if-share-length.false, (c.if-not-in-limits.ensures.yes refl).3),
+      omega (arith, c.loop-share.invariant.2, c.from-sum.ensures, c.if-share-length.false, (c.if-not-in_limits.ensures.yes refl).3),
     )
 
 pub returns : goal.returns
@@ -27,7 +27,7 @@ returns c =
     let area : c.from.result * c.from-2.result ≡ c.args.width * c.args.length = λ i. c.from.ensures i * c.from-2.ensures i in
     record {
       yes = λ e. record {
-        limits = c.if-not-in-limits.ensures.yes refl;
+        limits = c.if-not-in_limits.ensures.yes refl;
         narrow = subst (All (λ (x : ℕ). x ≤ c.args.length)) all c.loop-share.invariant.0;
         room = omega (arith, total, area, leb-true c.loop-share.sum (c.from.result * c.from-2.result) e);
       };

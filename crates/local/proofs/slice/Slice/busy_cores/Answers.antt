@@ -4,4 +4,4 @@ use Rattle.local.proofs.Masks.{ones_mask}
 use Rattle.local.proofs.slice.Slice.busy_cores.Goals as goal
 
 pub returns : goal.returns
-returns c = record { ones = c.ones-of.ensures; cores = c.ones-of.ensures ∙ ap ones c.args.self.now.masked ∙ ones_mask c.args.self.now.seats }
+returns c = record { ones = c.ones_of.ensures; cores = c.ones_of.ensures ∙ ap ones c.args.self.now.masked ∙ ones_mask c.args.self.now.seats }

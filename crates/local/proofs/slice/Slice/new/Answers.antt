@@ -4,6 +4,6 @@ use Rattle.local.proofs.slice.Slice.new.Goals as goal
 
 pub returns : goal.returns
 returns c = record {
-  0 = (refl, refl);
-  tells = λ k l. ap (λ (m : ℕ). m / 2 ^ k % 2) c.mask-of-busy.ensures ∙ mask_tells c.args.seats k (omega arith);
+  fields = (refl, refl);
+  tells = λ k l. ap (λ (m : ℕ). m / 2 ^ k % 2) c.mask_of-busy.ensures ∙ mask_tells c.args.seats k (omega arith);
 }
