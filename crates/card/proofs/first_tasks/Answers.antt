@@ -11,8 +11,8 @@ pub returns : goal.returns
 returns c =
     let n = c.args.n in
     let zeros = replicate 32 nobody in
-    let part = c.copy-from-slice.new.self in
-    let is = c.copy-from-slice.ensures.after in
+    let part = c.copy_from_slice.new.self in
+    let is = c.copy_from_slice.ensures.after in
     let same : take (n - 0) c.args.tasks.now ≡ take n c.args.tasks.now = ap (λ (m : ℕ). take m c.args.tasks.now) (law.sub-zero n) in
     let size : length part ≡ n = ap length (is ∙ same) ∙ length-take-le n c.args.tasks.now (omega arith) in
     record {

@@ -4,12 +4,12 @@ use Rattle.card.specs.declared.types.Task.{Task}
 use Rattle.card.proofs.Asked.{period_within, start_within}
 use Rattle.card.proofs.types.Card.window.Goals as goal
 
-pub window-at-requires : goal.window-at-requires
-window-at-requires c =
+pub window_at-requires : goal.window_at-requires
+window_at-requires c =
     let card = c.args.self.now in
     let task = c.args.task in
     let j = c.in-Ok.ensures.judged in
-    let t : (leb 1 task && leb task card.count) ≡ true = sym c.is-number.ensures ∙ c.if-not-is-number.false in
+    let t : (leb 1 task && leb task card.count) ≡ true = sym c.is_number.ensures ∙ c.if-not-is_number.false in
     let parts = and_parts (leb 1 task) (leb task card.count) t in
     let place : c.from.result < card.count = omega (arith, c.from.ensures, leb-true 1 task parts.0, leb-true task card.count parts.1) in
     let p = period_within card j.0 c.from.result place in
