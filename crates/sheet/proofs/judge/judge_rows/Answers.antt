@@ -3,13 +3,13 @@ use Rattle.std.proofs.lemmas.Result.{err_from_is_err_and}
 use Rattle.sheet.proofs.Turns.{left_more, left_told, left_all}
 use Rattle.sheet.proofs.judge.judge_rows.Goals as goal
 
-pub returns-in-err-judge-interval : goal.returns-in-err-judge-interval
-returns-in-err-judge-interval c =
-    let p = err_from_is_err_and c.from-residual.result c.from-residual.ensures.1 in
-    rw (p.1, p.2) (left_told c.loop-k.invariant (omega arith) c.in-err-judge-interval.field-0.0 c.in-err-judge-interval.ensures)
+pub returns-in_err-judge_interval : goal.returns-in_err-judge_interval
+returns-in_err-judge_interval c =
+    let p = err_from_is_err_and c.from_residual.result c.from_residual.ensures.1 in
+    rw (p.1, p.2) (left_told c.loop-k.invariant (omega arith) c.in_err-judge_interval.field-0.0 c.in_err-judge_interval.ensures)
 
 pub loop-k-preserved : goal.loop-k-preserved
-loop-k-preserved c = left_more c.loop-k.invariant (omega arith) c.in-ok-judge-interval.ensures
+loop-k-preserved c = left_more c.loop-k.invariant (omega arith) c.in_ok-judge_interval.ensures
 
 pub returns : goal.returns
 returns c = left_all c.loop-k.invariant (omega arith)

@@ -10,4 +10,4 @@ pub returns : goal.returns
 returns c =
     let v = c.args.intervals.now in
     let at : c.task.result ≡ get_or (tasks_of c.args.card.now) c.args.i nobody = c.task.ensures ∙ ap (λ (i : ℕ). get_or (tasks_of c.args.card.now) i nobody) c.from.ensures in
-    subst (λ (t : Task). Tells c.judge-jobs.result (jobs_by (start_of v) c.args.sheet.now v.frame c.args.i t)) at c.judge-jobs.ensures
+    subst (λ (t : Task). Tells c.judge_jobs.result (jobs_by (start_of v) c.args.sheet.now v.frame c.args.i t)) at c.judge_jobs.ensures

@@ -6,11 +6,11 @@ use Rattle.refusal.specs.Table.{numbered}
 use Rattle.sheet.specs.Verdicts.{judged_shares}
 use Rattle.sheet.proofs.judge.row_total.Goals as goal
 
-pub returns-then-too-wide : goal.returns-then-too-wide
-returns-then-too-wide c =
+pub returns-then-too_wide : goal.returns-then-too_wide
+returns-then-too_wide c =
     let xs = c.args.shares.now in
     let i = c.loop-i.i in
-    let wide : ltb c.args.len (get_or xs i 0) ≡ true = sym c.if-too-wide.ensures in
+    let wide : ltb c.args.len (get_or xs i 0) ≡ true = sym c.if-too_wide.ensures in
     ap numbered (sym (cond-true _ _ _ wide) ∙ sym (at_drop_more (judged_shares c.args.len c.args.interval (i + 1)) xs i 0 (omega arith)) ∙ c.loop-i.invariant.0)
 
 pub loop-i-preserved : goal.loop-i-preserved
@@ -18,7 +18,7 @@ loop-i-preserved c =
     let xs = c.args.shares.now in
     let i = c.loop-i.i in
     let h : i < length xs = omega arith in
-    let narrow : ltb c.args.len (get_or xs i 0) ≡ false = sym c.if-too-wide.ensures in
+    let narrow : ltb c.args.len (get_or xs i 0) ≡ false = sym c.if-too_wide.ensures in
     let more : sum (take (i + 1) xs) ≡ sum (take i xs) + get_or xs i 0 = sum_by_more (λ (x : ℕ). x) xs i 0 h in (
       sym (cond-false _ _ _ narrow) ∙ sym (at_drop_more (judged_shares c.args.len c.args.interval (i + 1)) xs i 0 h) ∙ c.loop-i.invariant.0,
       omega arith,

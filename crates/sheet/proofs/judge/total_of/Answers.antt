@@ -14,7 +14,7 @@ loop-k-preserved c =
     let l : k < n = omega arith in
     let f = part_by (start_of c.args.intervals.now) c.args.sheet.now c.args.i c.args.from c.args.to in
     let more : sum_by f (take (k + 1) (range_with_len 0 n)) ≡ sum_by f (take k (range_with_len 0 n)) + f k = sum_by_more f (range_with_len 0 n) k 0 (omega (arith, length-range_with_len 0 n)) ∙ ap (λ (x : ℕ). sum_by f (take k (range_with_len 0 n)) + f x) (get_or-range_with_len 0 n k 0 l ∙ zero-add k) in
-    (omega (arith, more, c.loop-k.invariant.0, c.part-of-total.ensures.value), omega (arith, c.loop-k.invariant.1, c.part-of-total.ensures.small))
+    (omega (arith, more, c.loop-k.invariant.0, c.part_of-total.ensures.value), omega (arith, c.loop-k.invariant.1, c.part_of-total.ensures.small))
 
 pub returns : goal.returns
 returns c =
