@@ -12,5 +12,5 @@ unreachable-requires g c =
     let k = c.args.interval in
     let q = by_row (held p) k c.requires in
     let within : k < q.1.rows = subst (λ (o : Option (Card × Sheet)). k < rows_in o) q.2 c.requires in
-    let args = meant_by p q.0 q.1 q.2 k within c.cores.result c.length-of-length.result c.row-of.result.now c.cores.ensures c.length-of-length.ensures c.row-of.ensures in
+    let args = meant_by p q.0 q.1 q.2 k within c.cores.result c.length_of-length.result c.row_of.result.now c.cores.ensures c.length_of-length.ensures c.row_of.ensures in
     c.in-Err.ensures.1 (subst (λ (l : Load). Fit l.0 l.1 l.2) (sym args) (fit_there p q.0 q.1 q.2 k within))

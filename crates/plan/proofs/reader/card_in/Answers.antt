@@ -5,8 +5,8 @@ use Rattle.plan.proofs.Agreed.{counts, layout}
 use Rattle.plan.proofs.Same.{one_card}
 use Rattle.plan.proofs.reader.card_in.Goals as goal
 
-pub tasks-at-tasks-requires : goal.tasks-at-tasks-requires
-tasks-at-tasks-requires c =
+pub tasks_at-tasks-requires : goal.tasks_at-tasks-requires
+tasks_at-tasks-requires c =
     let t = c.args.t in
     let few = counts t.cores t.count t.rows c.requires.agrees.counts in
     let laid = layout _ t.card t.sheet t.count t.rows c.requires.agrees.layout in

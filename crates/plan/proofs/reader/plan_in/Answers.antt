@@ -3,8 +3,8 @@ use Rattle.plan.proofs.reader.plan_in.Goals as goal
 
 pub returns : goal.returns
 returns c =
-    let card = c.in-ok-card.ensures in
-    let sheet = c.in-ok-sheet.ensures in
+    let card = c.in_ok-card.ensures in
+    let sheet = c.in_ok-sheet.ensures in
     record {
       is = (card.is, sheet.is);
       one = (card.one, sheet.one);

@@ -5,8 +5,8 @@ use Rattle.plan.proofs.Agreed.{counts, layout}
 use Rattle.plan.proofs.Same.{one_sheet}
 use Rattle.plan.proofs.reader.sheet_in.Goals as goal
 
-pub shares-at-shares-requires : goal.shares-at-shares-requires
-shares-at-shares-requires c =
+pub shares_at-shares-requires : goal.shares_at-shares-requires
+shares_at-shares-requires c =
     let t = c.args.t in
     let few = counts t.cores t.count t.rows c.requires.agrees.counts in
     let laid = layout _ t.card t.sheet t.count t.rows c.requires.agrees.layout in

@@ -19,6 +19,6 @@ returns c =
       sheet = c.number-2.ensures.is ∙ sym (ap (part 4 4) last);
       cores = omega (arith, ap (part 8 1) last);
       count = omega (arith, ap (part 9 1) last);
-      rows = c.short-number.ensures.is ∙ sym (ap (part 10 2) last);
-      back = five c.number.ensures.back c.number-2.ensures.back (ap one m) (ap one n) c.short-number.ensures.back ∙ sym last;
+      rows = c.short_number.ensures.is ∙ sym (ap (part 10 2) last);
+      back = five c.number.ensures.back c.number-2.ensures.back (ap one m) (ap one n) c.short_number.ensures.back ∙ sym last;
     }

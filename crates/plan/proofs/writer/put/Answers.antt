@@ -3,4 +3,4 @@ use Rattle.plan.proofs.Written.{written_part}
 use Rattle.plan.proofs.writer.put.Goals as goal
 
 pub returns : goal.returns
-returns c = written_part c.args.out.now _ c.args.bytes.now c.args.at _ c.copy-from-slice.ensures.after (omega arith) c.requires
+returns c = written_part c.args.out.now _ c.args.bytes.now c.args.at _ c.copy_from_slice.ensures.after (omega arith) c.requires

@@ -12,7 +12,7 @@ loop-i-init c = (none_yet c.args.out.now c.args.at, refl)
 pub loop-i-preserved : goal.loop-i-preserved
 loop-i-preserved c =
     let l = c.loop-i in
-    one_more 4 (bytes_of 4) number_of c.args.out.now l.out _ c.args.at l.i c.args.shares.now _ 0 (λ y. refl) (omega arith) refl (omega arith) l.invariant.0 l.invariant.1 c.put-share.ensures.is c.put-share.ensures.back
+    one_more 4 (bytes_of 4) number_of c.args.out.now l.out _ c.args.at l.i c.args.shares.now _ 0 (λ y. refl) (omega arith) refl (omega arith) l.invariant.0 l.invariant.1 c.put_share.ensures.is c.put_share.ensures.back
 
 pub returns : goal.returns
 returns c =

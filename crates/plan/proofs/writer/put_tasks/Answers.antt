@@ -14,7 +14,7 @@ loop-i-init c = (none_yet c.args.out.now c.args.at, refl)
 pub loop-i-preserved : goal.loop-i-preserved
 loop-i-preserved c =
     let l = c.loop-i in
-    one_more 8 entry_bytes entry_of c.args.out.now l.out _ c.args.at l.i c.args.tasks.now _ nobody (λ y. refl) (omega arith) refl (omega arith) l.invariant.0 l.invariant.1 c.put-task.ensures.is c.put-task.ensures.back
+    one_more 8 entry_bytes entry_of c.args.out.now l.out _ c.args.at l.i c.args.tasks.now _ nobody (λ y. refl) (omega arith) refl (omega arith) l.invariant.0 l.invariant.1 c.put_task.ensures.is c.put_task.ensures.back
 
 pub returns : goal.returns
 returns c =

@@ -12,7 +12,7 @@ use Rattle.dispatch.proofs.books.Books.pay_all.Goals as goal
 pub renews-requires : goal.renews-requires
 renews-requires c =
     let p = c.args.placement.now in
-    let here : c.loop-i.i < count_in (held p) = omega (arith, c.loop-i-test.true, c.task-count-i-end.ensures) in
+    let here : c.loop-i.i < count_in (held p) = omega (arith, c.loop-i-test.true, c.task_count-i-end.ensures) in
     let task : c.task-task.result ≡ task_in (held p) c.loop-i.i = c.task-task.ensures ∙ ap (task_in (held p)) c.from.ensures in
     subst (λ (t : Task). 1 ≤ t.period) (sym task) (period_there p c.loop-i.i here)
 
@@ -22,14 +22,14 @@ loop-i-preserved c =
     let xs = c.loop-i.self.accounts in
     let i = c.loop-i.i in
     let z = c.args.slice.now in
-    let here : i < count_in (held p) = omega (arith, c.loop-i-test.true, c.task-count-i-end.ensures) in
+    let here : i < count_in (held p) = omega (arith, c.loop-i-test.true, c.task_count-i-end.ensures) in
     let there : i < length xs = omega (arith, here, few_there p, c.loop-i.self.table) in
     let task : c.task-task.result ≡ task_in (held p) i = c.task-task.ensures ∙ ap (task_in (held p)) c.from.ensures in
     let pays : Task → Bool → Account → ℕ → Account = λ t b a n. paid t.run_time (cond b t.run_time a.owed) n in
-    let v : Account = pays c.task-task.result c.renews.result (get_or xs c.from-in-loop-i.result nothing) c.ticks-for-ticks.result in
+    let v : Account = pays c.task-task.result c.renews.result (get_or xs c.from-in-loop-i.result nothing) c.ticks_for-ticks.result in
     let after : c.pay.new.self.accounts ≡ set xs i v = c.pay.ensures.accounts ∙ ap (λ (n : ℕ). set xs n v) c.from-in-loop-i.ensures in
     let renewed = c.renews.ensures in
-    let ticks = c.ticks-for-ticks.ensures in
+    let ticks = c.ticks_for-ticks.ensures in
     let old : get_or xs c.from-in-loop-i.result nothing ≡ get_or c.args.self.now.accounts i nothing = ap (λ (n : ℕ). get_or xs n nothing) c.from-in-loop-i.ensures ∙ c.loop-i.invariant.1 i (law.le_refl i) in
     let paying : v ≡ paid_to c.args.self.now c.args.first c.args.tick z i (task_in (held p) i) =
     ap (λ (n : ℕ). pays c.task-task.result c.renews.result (get_or xs c.from-in-loop-i.result nothing) n) ticks

@@ -10,14 +10,14 @@ pub returns : goal.returns
 returns g c = λ card sheet h.
     let d = c.args.self.now in
     let m = g.S.LocalScheduler.meaning in
-    let tick : c.saturating-sub-tick.result ≡ begins card (frame_of (tasks_of card)) (d.interval + 1) - m.left d.scheduler =
-    c.saturating-sub-tick.ensures ∙ (λ i. c.start-end.ensures i - c.ticks-left.ensures i) ∙ ap (λ (n : ℕ). start_in (held d.placement) (n + 1) - m.left d.scheduler) c.from.ensures ∙ ap (λ o. start_in o (d.interval + 1) - m.left d.scheduler) h in
+    let tick : c.saturating_sub-tick.result ≡ begins card (frame_of (tasks_of card)) (d.interval + 1) - m.left d.scheduler =
+    c.saturating_sub-tick.ensures ∙ (λ i. c.start-end.ensures i - c.ticks_left.ensures i) ∙ ap (λ (n : ℕ). start_in (held d.placement) (n + 1) - m.left d.scheduler) c.from.ensures ∙ ap (λ o. start_in o (d.interval + 1) - m.left d.scheduler) h in
     record {
-      handed = c.take-choice-slice.ensures;
-      stamp = c.stamp.ensures ∙ ap (λ (n : ℕ). stamp_of n d.frame c.saturating-sub-tick.result) (c.frame.ensures ∙ ap frame_in h) ∙ ap (stamp_of (frame_of (tasks_of card)) d.frame) tick;
+      handed = c.take_choice-slice.ensures;
+      stamp = c.stamp.ensures ∙ ap (λ (n : ℕ). stamp_of n d.frame c.saturating_sub-tick.result) (c.frame.ensures ∙ ap frame_in h) ∙ ap (stamp_of (frame_of (tasks_of card)) d.frame) tick;
       placement = refl;
       frame = refl;
       interval = refl;
       loaded = c.requires.loaded;
-      books = subst (λ (t : ℕ). Entered card d.books c.args.first t c.take-choice-slice.result c.enter.new.self) tick (c.enter.ensures card sheet h);
+      books = subst (λ (t : ℕ). Entered card d.books c.args.first t c.take_choice-slice.result c.enter.new.self) tick (c.enter.ensures card sheet h);
     }
