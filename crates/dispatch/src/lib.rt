@@ -79,7 +79,7 @@ fn length_of(placement: &Placement, interval: u8) -> u32
 // Loads the shares of an interval.
 fn load_interval<S: LocalScheduler>(scheduler: &mut S, placement: &Placement, interval: u8)
     requires { interval < rows_in (held placement.now) }
-    ensures { (card : Card) (sheet : Sheet) → Holds placement.now card sheet → Loaded meaning scheduler.old card.cores (span card (frame_of (tasks_of card)) interval) (row sheet interval) scheduler.new }
+    ensures { (card : Card) (sheet : Sheet) → Holds placement.now card sheet → Loaded S.meaning scheduler.old card.cores (span card (frame_of (tasks_of card)) interval) (row sheet interval) scheduler.new }
 {
     let length = length_of(placement, interval);
     match scheduler.load(placement.cores(), length, row_of(placement, interval)) {
@@ -90,8 +90,8 @@ fn load_interval<S: LocalScheduler>(scheduler: &mut S, placement: &Placement, in
 
 // Takes the scheduler's choice.
 fn take_choice<S: LocalScheduler>(scheduler: &mut S) -> Slice
-    requires { 1 ≤ meaning.left scheduler.old }
-    ensures { Handed meaning scheduler.old result scheduler.new }
+    requires { 1 ≤ S.meaning.left scheduler.old }
+    ensures { Handed S.meaning scheduler.old result scheduler.new }
 {
     match scheduler.next() {
         Ok(slice) => slice,
@@ -103,7 +103,7 @@ impl<S: LocalScheduler> Dispatcher<S> {
     // A run from the frame `first` on, over a scheduler new or used.
     pub fn start(placement: Placement, scheduler: S, first: u32) -> Dispatcher<S>
         ensures begun { Begun placement scheduler first result }
-        ensures promise { (calls : List Call) (d : Dispatcher S) → Run meaning result calls d → Promised meaning placement scheduler first calls }
+        ensures promise { (calls : List Call) (d : Dispatcher S) → Run S.meaning result calls d → Promised S.meaning placement scheduler first calls }
     {
         let books = blank(opened(&placement));
         Dispatcher::at(placement, scheduler, first, books)
@@ -138,8 +138,8 @@ impl<S: LocalScheduler> Dispatcher<S> {
         ensures agrees { Lawful card.now → Agrees card.now sheet.now (is_ok result) }
         ensures lawful { Exactly (Lawful card.now) ((judged_card card.now).0 == 0) }
         ensures judged { MatchResult result (λ d. (judged card.now sheet.now ≡ fine) × Holds d.placement card.now sheet.now) (λ e. sheet_told e ≡ numbered (judged card.now sheet.now)) }
-        ensures promise { IfOk result (λ d. (calls : List Call) (e : Dispatcher S) → Run meaning d calls e → Promise meaning card.now sheet.now scheduler first calls) }
-        ensures launched { Launched meaning card.now sheet.now scheduler first result }
+        ensures promise { IfOk result (λ d. (calls : List Call) (e : Dispatcher S) → Run S.meaning d calls e → Promise S.meaning card.now sheet.now scheduler first calls) }
+        ensures launched { Launched S.meaning card.now sheet.now scheduler first result }
     {
         let mut placement = Placement::new();
         placement.accept(card, sheet)?;
@@ -149,7 +149,7 @@ impl<S: LocalScheduler> Dispatcher<S> {
     // Loads the next interval where one is to begin, and tells whether it did.
     fn advance(&mut self) -> Result<bool, DispatchFault>
         requires { 1 ≤ rows_in (held self.old.placement) }
-        ensures { (card : Card) (sheet : Sheet) → Holds self.old.placement card sheet → Advanced meaning card sheet (frame_of (tasks_of card)) self.old result self.new (where_next meaning sheet.rows self.old) }
+        ensures { (card : Card) (sheet : Sheet) → Holds self.old.placement card sheet → Advanced S.meaning card sheet (frame_of (tasks_of card)) self.old result self.new (where_next S.meaning sheet.rows self.old) }
     {
         if self.loaded && self.scheduler.ticks_left() > 0 {
             return Ok(false);
@@ -169,8 +169,8 @@ impl<S: LocalScheduler> Dispatcher<S> {
     // Hands out the scheduler's choice, stamps it and enters it in the books.
     fn hand_out(&mut self, first: bool) -> Stamped
         requires loaded { self.old.loaded ≡ true }
-        requires left { 1 ≤ meaning.left self.old.scheduler }
-        ensures { (card : Card) (sheet : Sheet) → Holds self.old.placement card sheet → Out meaning card (frame_of (tasks_of card)) self.old.frame self.old.interval first self.old.scheduler result self.old self.new }
+        requires left { 1 ≤ S.meaning.left self.old.scheduler }
+        ensures { (card : Card) (sheet : Sheet) → Holds self.old.placement card sheet → Out S.meaning card (frame_of (tasks_of card)) self.old.frame self.old.interval first self.old.scheduler result self.old self.new }
     {
         let end = self.placement.start(usize::from(self.interval) + 1);
         let tick = end.saturating_sub(self.scheduler.ticks_left());
@@ -184,7 +184,7 @@ impl<S: LocalScheduler> Dispatcher<S> {
 
     // The next slice, with its stamp.
     pub fn next_slice(&mut self) -> Result<Stamped, DispatchFault>
-        ensures { Does meaning self.old (next_slice result) self.new }
+        ensures { Does S.meaning self.old (next_slice result) self.new }
     {
         if self.placement.is_empty() {
             return Err(DispatchFault::Empty);
@@ -195,7 +195,7 @@ impl<S: LocalScheduler> Dispatcher<S> {
 
     // Ticks given and still owed to the job of a task, by its number from 1, whose window holds the last slice.
     pub fn account(&self, task: u32) -> Result<(u32, u32), DispatchFault>
-        ensures { Does meaning self.now (account task result) self.now }
+        ensures { Does S.meaning self.now (account task result) self.now }
     {
         if task < 1 || task > u32::from(self.placement.task_count()) {
             return Err(DispatchFault::NoTask);
@@ -206,7 +206,7 @@ impl<S: LocalScheduler> Dispatcher<S> {
 
     // Slices handed out, switches and busy ticks since the start.
     pub fn tally(&self) -> (u64, u64, u64)
-        ensures { Does meaning self.now (tally result) self.now }
+        ensures { Does S.meaning self.now (tally result) self.now }
     {
         (self.books.slices, self.books.switches, self.books.busy)
     }

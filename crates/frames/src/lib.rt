@@ -70,7 +70,7 @@ pub fn frame_of<S: LocalScheduler + Drop>(
     scheduler: S,
     number: u32,
 ) -> Result<Frame, FrameFault>
-    ensures { MatchResult result (λ f. FrameOf meaning card.now sheet.now scheduler number f.slices.items f.tally) (λ e. Told card.now sheet.now e) }
+    ensures { MatchResult result (λ f. FrameOf S.meaning card.now sheet.now scheduler number f.slices.items f.tally) (λ e. Told card.now sheet.now e) }
 {
     let length = frame_length(card)?;
     let mut run = Dispatcher::launch(card, sheet, scheduler, number)?;

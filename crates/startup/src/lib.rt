@@ -36,7 +36,7 @@ fn launched<S: LocalScheduler + Drop>(
     scheduler: S,
     first: u32,
 ) -> Result<Dispatcher<S>, SheetFault>
-    ensures { MatchResult plan (λ p. Launched meaning p.0 p.1 scheduler first result) (λ e. result ≡ Err e) }
+    ensures { MatchResult plan (λ p. Launched S.meaning p.0 p.1 scheduler first result) (λ e. result ≡ Err e) }
 {
     let (card, sheet) = plan?;
     Dispatcher::launch(&card, &sheet, scheduler, first)
@@ -49,7 +49,7 @@ pub fn launch_file<S: LocalScheduler + Drop>(
     scheduler: S,
     first: u32,
 ) -> Result<Dispatcher<S>, SheetFault>
-    ensures { LaunchedFile meaning bytes.now scheduler first result }
+    ensures { LaunchedFile S.meaning bytes.now scheduler first result }
 {
     launched(plan_of(bytes), scheduler, first)
 }
