@@ -5,8 +5,8 @@ use Rattle.izl.proofs.hand_out.Goals as goal
 pub step-requires : goal.step-requires
 step-requires c = let g = carried c.args.s.now.tables c.args.s.now.good in (g.within, g.sound.held)
 
-pub invariant-of-s : goal.invariant-of-s
-invariant-of-s c = (∣ stays_good c.args.s.now.tables c.step.new.self (carried c.args.s.now.tables c.args.s.now.good) c.requires c.step.ensures.within c.step.ensures.does ∣₁, tt)
+pub invariant_of-s : goal.invariant_of-s
+invariant_of-s c = record { good = ∣ stays_good c.args.s.now.tables c.step.new.self (carried c.args.s.now.tables c.args.s.now.good) c.requires c.step.ensures.within c.step.ensures.does ∣₁ }
 
 pub returns : goal.returns
 returns c =

@@ -5,8 +5,8 @@ use Rattle.izl.proofs.take_load.Goals as goal
 pub begin-requires : goal.begin-requires
 begin-requires c = ((carried c.args.s.now.tables c.args.s.now.good).within, c.requires)
 
-pub invariant-of-s : goal.invariant-of-s
-invariant-of-s c = (∣ load_good c.begin.new.self c.args.width c.args.length c.args.shares.now c.requires c.begin.ensures.within c.begin.ensures.does ∣₁, tt)
+pub invariant_of-s : goal.invariant_of-s
+invariant_of-s c = record { good = ∣ load_good c.begin.new.self c.args.width c.args.length c.args.shares.now c.requires c.begin.ensures.within c.begin.ensures.does ∣₁ }
 
 pub returns : goal.returns
 returns c =

@@ -1,5 +1,5 @@
 use Rattle.izl.proofs.Carried.{carried}
 use Rattle.izl.proofs.IzlLocalScheduler.amount.Goals as goal
 
-pub amount-of-requires : goal.amount-of-requires
-amount-of-requires c = let g = carried c.args.self.now.tables c.args.self.now.good in (g.within, g.sound.held)
+pub amount_of-requires : goal.amount_of-requires
+amount_of-requires c = let g = carried c.args.self.now.tables c.args.self.now.good in (g.within, g.sound.held)

@@ -3,5 +3,5 @@ use Rattle.izl_rule.specs.Invariant.{Sound}
 use Rattle.izl_rule.proofs.Loading.{new_sound}
 use Rattle.izl.proofs.IzlLocalScheduler.new.Goals as goal
 
-pub invariant-of-result : goal.invariant-of-result
-invariant-of-result c = (∣ record { within = c.empty.ensures.within; sound = subst Sound (sym c.empty.ensures.is) new_sound } ∣₁, tt)
+pub invariant_of-result : goal.invariant_of-result
+invariant_of-result c = record { good = ∣ record { within = c.empty.ensures.within; sound = subst Sound (sym c.empty.ensures.is) new_sound } ∣₁ }

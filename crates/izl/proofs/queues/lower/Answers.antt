@@ -7,8 +7,8 @@ use Rattle.izl_rule.specs.Rule.{nobody, lowered}
 use Rattle.izl.proofs.Views.{not_yet_lowered}
 use Rattle.izl.proofs.queues.lower.Goals as goal
 
-pub overflow-sub-table : goal.overflow-sub-table
-overflow-sub-table c =
+pub overflow_sub-table : goal.overflow_sub-table
+overflow_sub-table c =
     let lt : c.loop-i.i < length c.args.table.now = search rules in
     let i = c.loop-i.i in
     let e = not_yet_lowered c.args.ticks i c.args.table.now c.loop-i.table lt c.loop-i.invariant ∙ sym (get_or-take c.args.cores c.args.table.now i nobody c.loop-i-test.true) in

@@ -11,7 +11,7 @@ settle-requires c = (c.advance.ensures.within, subst (λ (s : State). Held (merg
 
 pub returns : goal.returns
 returns c = record {
-  chosen = slice_same _ _ (c.new-slice.ensures.0.0 ∙ c.time.ensures) (c.new-slice.ensures.0.1 ∙ c.seats.ensures);
+  chosen = slice_same _ _ (c.new-slice.ensures.fields.0 ∙ c.time.ensures) (c.new-slice.ensures.fields.1 ∙ c.seats.ensures);
   does = c.settle.ensures.does ∙ ap settled c.advance.ensures.does;
   within = c.settle.ensures.within;
 }

@@ -6,5 +6,5 @@ use Rattle.izl.proofs.tables.Tables.time.Goals as goal
 
 pub returns : goal.returns
 returns c =
-    c.time-by.ensures ∙ (λ i. time_by (c.kind.ensures i) (c.first-amount.ensures i) c.args.self.now.left (c.last-amount.ensures i))
+    c.time_by.ensures ∙ (λ i. time_by (c.kind.ensures i) (c.first_amount.ensures i) c.args.self.now.left (c.last_amount.ensures i))
     ∙ sym (ap (λ (p : ℕ × State). p.0) (passage_is c.args.self.now c.requires))
