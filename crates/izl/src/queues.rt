@@ -1,5 +1,5 @@
 // The core queue and the waiting queue, passage by passage.
-ghost use Rattle.std.specs.Prelude.{◌≡◌, ◌+◌, ◌-◌, ◌<◌, ◌≤◌, ◌++◌, map, length, take, drop, ◌==◌, nat_le, slice_index_or, slice_set};
+ghost use Rattle.std.specs.Prelude.{◌≡◌, ◌+◌, ◌-◌, ◌<◌, ◌≤◌, ◌++◌, map, length, take, drop, nat_eq, nat_le, slice_index_or, slice_set};
 ghost use Rattle.std.specs.List.{AllByRecursion as All};
 ghost use Rattle.izl_rule.specs.Rule.{nobody, on, lowered, F, G, leaves, takes, refill, take_over, passed, passage, settled};
 ghost use Rattle.izl_rule.specs.Invariant.{Held, merged};
@@ -58,7 +58,7 @@ fn time_by(kind: Kind, first: u32, left: u32, last: u32) -> u32
 
 // Whether a core's task has ended, so that it is not put back.
 fn has_ended(last: Running) -> bool
-    ensures { result ≡ (last.amount == 0) }
+    ensures { result ≡ nat_eq last.amount 0 }
 {
     last.amount == 0
 }
