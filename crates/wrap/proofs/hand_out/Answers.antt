@@ -5,8 +5,8 @@ use Rattle.wrap.proofs.Handing.{t_within}
 use Rattle.wrap.proofs.Telling.{good, told_handed, told_laid}
 use Rattle.wrap.proofs.hand_out.Goals as goal
 
-pub overflow-sub-w : goal.overflow-sub-w
-overflow-sub-w c =
+pub overflow_sub-w : goal.overflow_sub-w
+overflow_sub-w c =
     let w = c.args.w.now in
     omega (arith, ap (λ (z : Slice). z.length) c.chosen-slice.ensures, t_within (view w) (good w) c.requires)
 

@@ -4,11 +4,11 @@ use Rattle.wrap.proofs.Loading.{line_sum, largest_under, loaded_good}
 use Rattle.wrap.proofs.Telling.{told_loaded}
 use Rattle.wrap.proofs.take_load.Goals as goal
 
-pub invariant-of-w : goal.invariant-of-w
-invariant-of-w c =
+pub invariant_of-w : goal.invariant_of-w
+invariant_of-w c =
     let g = loaded_good c.args.width c.args.length c.args.shares.now c.requires in
     let xs = padded c.args.shares.now in
-    let e = c.table-of.ensures in (
+    let e = c.table_of.ensures in (
       g.wide,
       (
         c.requires.limits.3,
@@ -30,4 +30,4 @@ invariant-of-w c =
 
 pub returns : goal.returns
 returns c = told_loaded c.args.w.now _ c.args.width c.args.length c.args.shares.now c.requires
-    (ap (λ (xs : List ℕ). record { width = c.args.width; len = c.args.length; left = c.args.length; shares = xs }) c.table-of.ensures)
+    (ap (λ (xs : List ℕ). record { width = c.args.width; len = c.args.length; left = c.args.length; shares = xs }) c.table_of.ensures)

@@ -4,8 +4,8 @@ use Rattle.wrap.proofs.Cuts.{Least, least_none, least_more, least_one, next_leas
 use Rattle.wrap.proofs.Room.{line_more, line_short}
 use Rattle.wrap.proofs.state.Wrap.next_cut.Goals as goal
 
-pub overflow-add-end : goal.overflow-add-end
-overflow-add-end c = omega (arith, c.loop-share.invariant.0, line_more c.args.self.now.shares c.loop-share.share-index, line_short c.args.self.now (c.loop-share.share-index + 1) (omega arith))
+pub overflow_add-end : goal.overflow_add-end
+overflow_add-end c = omega (arith, c.loop-share.invariant.0, line_more c.args.self.now.shares c.loop-share.share-index, line_short c.args.self.now (c.loop-share.share-index + 1) (omega arith))
 
 pub loop-share-init : goal.loop-share-init
 loop-share-init c = (refl, least_none c.args.self.now.shares c.args.self.now.length c.args.past c.requires)

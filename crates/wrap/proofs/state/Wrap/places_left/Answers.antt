@@ -8,17 +8,17 @@ use Rattle.wrap.proofs.state.Wrap.places_left.Goals as goal
 bound : (w : Wrap) (i n : ℕ) → i < n → n ≡ w.width → i * w.length + w.length ≤ 16000000
 bound w i n l e = core_short w i (omega arith)
 
-pub overflow-mul-first : goal.overflow-mul-first
-overflow-mul-first c = omega (arith, bound c.args.self.now c.loop-core.core c.from-core-end.result c.loop-core-test.true c.from-core-end.ensures)
+pub overflow_mul-first : goal.overflow_mul-first
+overflow_mul-first c = omega (arith, bound c.args.self.now c.loop-core.core c.from-core-end.result c.loop-core-test.true c.from-core-end.ensures)
 
-pub overflow-add-first : goal.overflow-add-first
-overflow-add-first c = omega (arith, bound c.args.self.now c.loop-core.core c.from-core-end.result c.loop-core-test.true c.from-core-end.ensures, c.offset-x.ensures)
+pub overflow_add-first : goal.overflow_add-first
+overflow_add-first c = omega (arith, bound c.args.self.now c.loop-core.core c.from-core-end.result c.loop-core-test.true c.from-core-end.ensures, c.offset-x.ensures)
 
-pub overflow-add-first-in-loop-core : goal.overflow-add-first-in-loop-core
-overflow-add-first-in-loop-core c = omega (arith, bound c.args.self.now c.loop-core.core c.from-core-end.result c.loop-core-test.true c.from-core-end.ensures)
+pub overflow_add-first-in-loop-core : goal.overflow_add-first-in-loop-core
+overflow_add-first-in-loop-core c = omega (arith, bound c.args.self.now c.loop-core.core c.from-core-end.result c.loop-core-test.true c.from-core-end.ensures)
 
-pub overflow-add-places : goal.overflow-add-places
-overflow-add-places c = omega (arith, bound c.args.self.now c.loop-core.core c.from-core-end.result c.loop-core-test.true c.from-core-end.ensures, c.loop-core.invariant.1, c.common-places.ensures)
+pub overflow_add-places : goal.overflow_add-places
+overflow_add-places c = omega (arith, bound c.args.self.now c.loop-core.core c.from-core-end.result c.loop-core-test.true c.from-core-end.ensures, c.loop-core.invariant.1, c.common-places.ensures)
 
 pub loop-core-preserved : goal.loop-core-preserved
 loop-core-preserved c =

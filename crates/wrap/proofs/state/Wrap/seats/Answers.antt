@@ -13,7 +13,7 @@ loop-core-preserved c =
     let xs = c.loop-core.seats in
     let i = c.loop-core.core in (
       length-set xs i _ ∙ c.loop-core.invariant.0,
-      subst (λ (seat : ℕ). (k : ℕ) → k < i + 1 → get_or (set xs i seat) k 0 ≡ f k) (sym c.seat-of.ensures)
+      subst (λ (seat : ℕ). (k : ℕ) → k < i + 1 → get_or (set xs i seat) k 0 ≡ f k) (sym c.seat_of.ensures)
           (fill_by_more f xs i 0 (omega (arith, c.loop-core.invariant.0, c.loop-core-test.true)) c.loop-core.invariant.1),
     )
 

@@ -12,20 +12,20 @@ below a b p e = grind (arith, nat_tests)
 behind : (a b p : ℕ) → false ≡ (leb a p && ltb p b) → a ≤ p → b ≤ p
 behind a b p e l = grind (arith, nat_tests)
 
-pub overflow-add-end : goal.overflow-add-end
-overflow-add-end c = omega (arith, c.loop-i.invariant.0, line_more c.args.self.now.shares c.loop-i.i, line_short c.args.self.now (c.loop-i.i + 1) (omega arith))
+pub overflow_add-end : goal.overflow_add-end
+overflow_add-end c = omega (arith, c.loop-i.invariant.0, line_more c.args.self.now.shares c.loop-i.i, line_short c.args.self.now (c.loop-i.i + 1) (omega arith))
 
 pub loop-i-preserved : goal.loop-i-preserved
 loop-i-preserved c = (
   omega (arith, c.loop-i.invariant.0, line_more c.args.self.now.shares c.loop-i.i),
-  behind _ _ _ c.if-in-stretch.ensures c.loop-i.invariant.1,
+  behind _ _ _ c.if-in_stretch.ensures c.loop-i.invariant.1,
 )
 
-pub returns-then-in-stretch : goal.returns-then-in-stretch
-returns-then-in-stretch c =
+pub returns-then-in_stretch : goal.returns-then-in_stretch
+returns-then-in_stretch c =
     let w = c.args.self.now in
     let i = c.loop-i.i in
-    let end : c.args.place < c.loop-i.start + share_at w.shares i = below c.loop-i.start (c.loop-i.start + share_at w.shares i) c.args.place c.if-in-stretch.ensures in
+    let end : c.args.place < c.loop-i.start + share_at w.shares i = below c.loop-i.start (c.loop-i.start + share_at w.shares i) c.args.place c.if-in_stretch.ensures in
     add-one i
     ∙ sym (whose_is (share_at w.shares) (length w.shares) c.args.place i (omega (arith, w.full, c.loop-i-test.true)) (omega (arith, c.loop-i.invariant.0, c.loop-i.invariant.1)) (omega (arith, c.loop-i.invariant.0, end)))
 
