@@ -8,25 +8,15 @@ pub invariant_of-w : goal.invariant_of-w
 invariant_of-w c =
     let g = loaded_good c.args.width c.args.length c.args.shares.now c.requires in
     let xs = padded c.args.shares.now in
-    let e = c.table_of.ensures in (
-      g.wide,
-      (
-        c.requires.limits.3,
-        (
-          omega arith,
-          (
-            ap length e ∙ g.size,
-            (
-              subst (λ (ys : List ℕ). largest ys ≤ c.args.length) (sym e) (largest_under xs c.args.length g.narrow),
-              (
-                omega (arith, ap sum e, line_sum xs, g.room),
-                tt,
-              ),
-            ),
-          ),
-        ),
-      ),
-    )
+    let e = c.table_of.ensures in
+    record {
+      wide = g.wide;
+      short = c.requires.limits.3;
+      within = omega arith;
+      full = ap length e ∙ g.size;
+      narrow = subst (λ (ys : List ℕ). largest ys ≤ c.args.length) (sym e) (largest_under xs c.args.length g.narrow);
+      room = omega (arith, ap sum e, line_sum xs, g.room);
+    }
 
 pub returns : goal.returns
 returns c = told_loaded c.args.w.now _ c.args.width c.args.length c.args.shares.now c.requires

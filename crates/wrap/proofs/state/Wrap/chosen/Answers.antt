@@ -13,5 +13,5 @@ pub returns : goal.returns
 returns c =
     let w = c.args.self.now in
     slice_same _ _
-    (c.new.ensures.0.0 ∙ ap (λ (y : ℕ). y - c.offset-x.result) c.next_cut.ensures ∙ ap (λ (x : ℕ). next_cut w.shares w.length x - x) c.offset-x.ensures)
-    (c.new.ensures.0.1 ∙ c.seats.ensures)
+    (c.new.ensures.fields.0 ∙ ap (λ (y : ℕ). y - c.offset-x.result) c.next_cut.ensures ∙ ap (λ (x : ℕ). next_cut w.shares w.length x - x) c.offset-x.ensures)
+    (c.new.ensures.fields.1 ∙ c.seats.ensures)
