@@ -106,9 +106,10 @@ mod tests {
         second: u8,
     ) -> Result<(), Fail> {
         let slice = w.next()?;
+        let seats = slice.seats;
         assert_eq!(rt; slice.length, length);
-        assert_eq!(rt; slice.seats[0], first);
-        assert_eq!(rt; slice.seats[1], second);
+        assert_eq!(rt; seats[0], first);
+        assert_eq!(rt; seats[1], second);
         Ok(())
     }
 

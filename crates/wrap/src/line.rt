@@ -1,5 +1,5 @@
 // The line of places: the shares laid end to end, `length` places to a core.
-ghost use Rattle.std.specs.Prelude.{◌≡◌, ℕ, ◌+◌, ◌-◌, ◌^◌, ◌<◌, ◌≤◌, min, max, ◌&&◌, ltb, if◌then◌else◌, sum, nat_le, nat_lt};
+ghost use Rattle.std.specs.Prelude.{◌≡◌, ℕ, ◌+◌, ◌-◌, ◌^◌, ◌<◌, ◌≤◌, min, max, ◌&&◌, if◌then◌else◌, sum, nat_le, nat_lt};
 ghost use Rattle.wrap.specs.Wrap.{Few, padded, task_at, next_cut, seat_at, seats_at, meets, offset, choice, amount};
 ghost use Rattle.wrap.specs.Told.{view};
 
@@ -14,7 +14,7 @@ fn in_stretch(start: u32, end: u32, place: u32) -> bool
 
 // The nearest cut so far, or the tick where a share ends, if that is nearer.
 fn nearer(nearest: u32, share: u32, end: u32, past: u32) -> u32
-    ensures { result ≡ (if ltb 0 share && (nat_lt past end && nat_lt end nearest) then end else nearest) }
+    ensures { result ≡ (if nat_lt 0 share && (nat_lt past end && nat_lt end nearest) then end else nearest) }
 {
     if 0 < share && past < end && end < nearest {
         end
