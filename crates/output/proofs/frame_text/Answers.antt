@@ -12,5 +12,5 @@ refused_line bs text Memory why none = absurd none
 
 pub returns-in-Err : goal.returns-in-Err
 returns-in-Err c =
-    let why = subst (λ (bs : List ℕ). NoBlocks bs c.in-Err.fault) c.first-bytes.ensures c.in-Err.ensures in
-    IfOk-weaker c.fault-text.result _ _ (λ t. refused_line _ _ c.in-Err.fault why) c.fault-text.ensures
+    let why = subst (λ (bs : List ℕ). NoBlocks bs c.in-Err.fault) c.first_bytes.ensures c.in-Err.ensures in
+    IfOk-weaker c.fault_text.result _ _ (λ t. refused_line _ _ c.in-Err.fault why) c.fault_text.ensures

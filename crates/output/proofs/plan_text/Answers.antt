@@ -20,9 +20,9 @@ no_blocks bs card sheet holds Memory told = tt
 
 pub returns : goal.returns
 returns c =
-    let card = c.in-ok-card.card in
-    let sheet = c.in-ok-card.sheet in
-    let holds = c.in-ok-card.ensures in
-    MatchResult-weaker c.both-blocks.result c.both-blocks.ensures
+    let card = c.in_ok-card.card in
+    let sheet = c.in_ok-card.sheet in
+    let holds = c.in_ok-card.ensures in
+    MatchResult-weaker c.both_blocks.result c.both_blocks.ensures
     (λ t blocks. record { card = card; sheet = sheet; holds = holds; blocks = blocks })
     (no_blocks c.args.bytes.now card sheet holds)
