@@ -24,5 +24,5 @@ returns c = record {
     late_frame = refl;
     next_frame = refl;
   };
-  starts = λ i. (c.start-of.ensures i, c.start-of-2.ensures i);
+  starts = λ i. (c.start_of.ensures i, c.start_of-2.ensures i);
 }

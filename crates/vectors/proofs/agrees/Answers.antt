@@ -7,4 +7,4 @@ use Rattle.std.proofs.lemmas.Bool.Decides.{Decides-eqb}
 pub returns : goal.returns
 returns c = λ same.
     let equal = (slice_eq-Decides Decides-eqb _ _ _ c.eq.ensures).0 same in
-    subst (Printed (take 16908 c.args.plan.now)) (sym c.as-bytes.ensures.value ∙ equal) c.in-ok-text.ensures
+    subst (Printed (take 16908 c.args.plan.now)) (sym c.as_bytes.ensures.value ∙ equal) c.in_ok-text.ensures
