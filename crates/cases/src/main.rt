@@ -7,6 +7,7 @@ use local::LocalScheduler;
 use refusal::{FileFault, Refusal};
 use sheet::{Placement, Sheet};
 use std::io;
+use wrap::Wrap;
 
 // A load has at most one slice more than it has shares above zero.
 const MAX_SLICES: u32 = 33;
@@ -152,8 +153,8 @@ fn print_telling(rt: &HostRuntime, izl: &mut Izl) -> io::Result<()> {
 fn main(rt: HostRuntime) -> io::Result<()> {
     print_cards(&rt)?;
     print_plans(&rt)?;
-    print_loads(&rt, &mut <wrap::Wrap as LocalScheduler>::new())?;
-    let mut izl = <Izl as LocalScheduler>::new();
+    print_loads(&rt, &mut Wrap::new())?;
+    let mut izl = Izl::new();
     print_loads(&rt, &mut izl)?;
     print_telling(&rt, &mut izl)
 }

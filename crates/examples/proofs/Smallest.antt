@@ -1,10 +1,9 @@
 -- The smallest plan passes every check.
-use Rattle.std.proofs.Common.{◌≡◌, ℕ, true, eqb, List, [], ◌∷◌, Ok, Err, Result, sym, refl, ap, ◌∙◌, subst, ap₂, lit≤}
+use Rattle.std.proofs.Common.{◌≡◌, true, eqb, [], ◌∷◌, Err, Result, sym, refl, ap, ◌∙◌, ap₂, lit≤}
 use Prim.{tt}
 use Rattle.refusal.specs.declared.Refusal.{Refusal}
 use Rattle.refusal.specs.declared.SheetFault.{SheetFault}
 use Rattle.card.specs.declared.types.Card.{Card}
-use Rattle.card.specs.Lawful.{Lawful}
 use Rattle.card.specs.Verdicts.{Judged, fine, judged_card}
 use Rattle.sheet.specs.declared.types.Sheet.{Sheet}
 use Rattle.sheet.specs.Verdicts.{judged}

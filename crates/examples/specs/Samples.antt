@@ -23,13 +23,13 @@ task period run = record { period = period; run_time = run }
 
 -- a card of these tasks
 abbrev pub card_of : (cores : ℕ) (tasks : List Task) → 1 ≤ cores → cores ≤ 16 → 1 ≤ length tasks → length tasks ≤ 32 → Card
-card_of cores tasks some few some-tasks tasks_few = record {
+card_of cores tasks some few some_tasks tasks_few = record {
   cores = cores;
   count = length tasks;
   tasks = tasks ++ replicate (32 - length tasks) nobody;
   some_cores = some;
   few_cores = few;
-  some_tasks = some-tasks;
+  some_tasks = some_tasks;
   few_tasks = tasks_few;
   table = filled tasks 32 nobody tasks_few;
   no_period = λ i l. ap (λ (t : Task). t.period) (behind tasks (32 - length tasks) i nobody l);
@@ -38,14 +38,14 @@ card_of cores tasks some few some-tasks tasks_few = record {
 
 -- a sheet of these shares, row by row
 abbrev pub sheet_of : (rows count : ℕ) (shares : List ℕ) → 1 ≤ rows → rows ≤ 128 → 1 ≤ count → count ≤ 32 → length shares ≡ rows * count → length shares ≤ 4096 → Sheet
-sheet_of rows count shares some few some-shares few-shares whole within = record {
+sheet_of rows count shares some few some_shares few_shares whole within = record {
   rows = rows;
   count = count;
   shares = shares ++ replicate (4096 - length shares) 0;
   some_rows = some;
   few_rows = few;
-  some_shares = some-shares;
-  few_shares = few-shares;
+  some_shares = some_shares;
+  few_shares = few_shares;
   table = filled shares 4096 0 within;
   rest = λ i l. behind shares (4096 - length shares) i 0 (omega (arith, whole, l));
 }

@@ -45,7 +45,7 @@ fn launch_smallest(scheduler: Wrap) -> Result<Dispatcher<Wrap>, SheetFault>
 pub fn smallest_plan() -> Dispatcher<Wrap>
     ensures { Running result }
 {
-    match launch_smallest(<Wrap as LocalScheduler>::new()) {
+    match launch_smallest(Wrap::new()) {
         Ok(run) => run,
         Err(_) => unreachable(),
     }

@@ -12,7 +12,7 @@ use Rattle.card.proofs.Frames.{frame_one}
 use Rattle.sheet.specs.declared.types.Sheet.{Sheet}
 use Rattle.local.specs.Meaning.{Local}
 use Rattle.dispatch.specs.declared.Stamped.{Stamped}
-use Rattle.dispatch.specs.Counts.{ticks, frame_start}
+use Rattle.dispatch.specs.Counts.{ticks}
 use Rattle.dispatch.specs.Promise.{Promise}
 use Rattle.dispatch.specs.Runs.{Call, handed}
 use Rattle.dispatch.specs.Runs.Call.{next_slice}

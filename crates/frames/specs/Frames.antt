@@ -1,6 +1,5 @@
 -- One frame of a run.
 use Rattle.std.specs.Prelude.{◌≡◌, ℕ, ◌^◌, ◌<◌, List, [], length}
-use Rattle.refusal.specs.declared.SheetFault.{SheetFault}
 use Rattle.refusal.specs.Table.{numbered, sheet_told}
 use Rattle.card.specs.declared.types.Card.{Card}
 use Rattle.card.specs.Cards.{Frame}

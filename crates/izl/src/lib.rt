@@ -102,7 +102,7 @@ mod tests {
     // After a tick task 3 takes over core 2; task 2, put back, takes core 1, whose task has ended.
     #[test]
     fn three_tasks_on_two_cores(rt: HostRuntime) -> Result<(), Fail> {
-        let mut izl = <Izl as LocalScheduler>::new();
+        let mut izl = Izl::new();
         assert_eq!(rt; izl.load(2, 6, &[6, 6, 1]), Err(LocalFault::Misfit));
         izl.load(2, 6, &[1, 2, 5])?;
         assert!(rt; next_is(&mut izl, 1, 1, 2)?);

@@ -4,22 +4,24 @@
 ghost use Rattle.std.specs.Prelude.{◌≡◌, take, IfOk, string_bytes, MatchResult};
 ghost use Rattle.card.specs.Verdicts.{fine};
 ghost use Rattle.frames.specs.Frames.{Told};
-ghost use Rattle.izl.specs.Told.{told as izl-told};
+ghost use Rattle.izl.specs.Told.{told as izl_told};
 ghost use Rattle.output.specs.Printed.{Block, BothBlocks, LineOf, NoBlocks, PlanBlocks, Printed};
 ghost use Rattle.refusal.specs.Table.{sheet_told};
 ghost use Rattle.sheet.specs.Verdicts.{judged};
 ghost use Rattle.text.specs.Lines.{refused_text};
-ghost use Rattle.wrap.specs.Told.{told as wrap-told};
+ghost use Rattle.wrap.specs.Told.{told as wrap_told};
 
 use blocks::block;
 use card::Card;
 use frames::{FrameFault, frame_of};
+use izl::Izl;
 use local::LocalScheduler;
 use refusal::Refusal;
 use sheet::Sheet;
 use startup::plan_of;
 use std::alloc::{AllocError, Global};
 use text::RefusedLine;
+use wrap::Wrap;
 
 // One byte more than the longest file has: a longer one is judged by so many.
 pub const MOST: usize = 16_908;
@@ -48,16 +50,16 @@ pub fn new_block<S: LocalScheduler + Drop>(
 
 // The first block, with the letter I.
 fn first_block(heap: Global, card: &Card, sheet: &Sheet) -> Result<String, FrameFault>
-    ensures { MatchResult result (λ t. Block izl-told 73 card.now sheet.now (string_bytes t)) (λ e. Told card.now sheet.now e) }
+    ensures { MatchResult result (λ t. Block izl_told 73 card.now sheet.now (string_bytes t)) (λ e. Told card.now sheet.now e) }
 {
-    new_block::<izl::Izl>(heap, card, sheet)
+    new_block::<Izl>(heap, card, sheet)
 }
 
 // The second block, with the letter W.
 fn second_block(heap: Global, card: &Card, sheet: &Sheet) -> Result<String, FrameFault>
-    ensures { MatchResult result (λ t. Block wrap-told 87 card.now sheet.now (string_bytes t)) (λ e. Told card.now sheet.now e) }
+    ensures { MatchResult result (λ t. Block wrap_told 87 card.now sheet.now (string_bytes t)) (λ e. Told card.now sheet.now e) }
 {
-    new_block::<wrap::Wrap>(heap, card, sheet)
+    new_block::<Wrap>(heap, card, sheet)
 }
 
 // The two blocks, one behind the other.

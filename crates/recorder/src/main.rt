@@ -3,10 +3,12 @@
 
 use card::{Card, Intervals, Task};
 use dispatch::{Dispatcher, Stamped};
+use izl::Izl;
 use local::LocalScheduler;
 use refusal::{FileFault, Refusal};
 use sheet::{Placement, Sheet};
 use std::io;
+use wrap::Wrap;
 
 const CORES: u8 = 2;
 
@@ -160,20 +162,8 @@ fn print_verdict(rt: &HostRuntime, card: &Card, sheet: &Sheet) -> io::Result<()>
         return print_refusal(rt, fault.told());
     }
     println!(rt; "accepted")?;
-    print_plan(
-        rt,
-        card,
-        &intervals,
-        sheet,
-        <izl::Izl as LocalScheduler>::new(),
-    )?;
-    print_plan(
-        rt,
-        card,
-        &intervals,
-        sheet,
-        <wrap::Wrap as LocalScheduler>::new(),
-    )
+    print_plan(rt, card, &intervals, sheet, Izl::new())?;
+    print_plan(rt, card, &intervals, sheet, Wrap::new())
 }
 
 // The plan with this first row.

@@ -1,5 +1,5 @@
 -- Rows and windows of a sheet as sums over tasks and intervals, and what a window of a timetable has of them.
-use Rattle.std.proofs.Common.{◌≡◌, ℕ, suc, ◌+◌, ◌-◌, ◌*◌, ◌<◌, ◌≤◌, eqb, length, take, drop, sum, count_by, ap, ◌∙◌, add-one, arith}
+use Rattle.std.proofs.Common.{◌≡◌, ℕ, suc, ◌+◌, ◌*◌, ◌<◌, ◌≤◌, eqb, length, take, drop, sum, count_by, ap, ◌∙◌, add-one, arith}
 use native.Mathlib.Nat as law
 use Rattle.std.proofs.lemmas.List.{get_or-drop}
 use Rattle.card.specs.declared.types.Card.{Card}

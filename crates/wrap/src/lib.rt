@@ -95,39 +95,29 @@ impl LocalScheduler for Wrap {
 #[cfg(test)]
 mod tests {
     use super::*;
-    use std::process::Abort;
     use std::test::Fail;
 
-    fn next_is(
-        rt: &impl Abort,
-        w: &mut Wrap,
-        length: u32,
-        first: u8,
-        second: u8,
-    ) -> Result<(), Fail> {
+    fn next_is(w: &mut Wrap, length: u32, first: u8, second: u8) -> Result<bool, Fail> {
         let slice = w.next()?;
-        let seats = slice.seats;
-        assert_eq!(rt; slice.length, length);
-        assert_eq!(rt; seats[0], first);
-        assert_eq!(rt; seats[1], second);
-        Ok(())
+        Ok(slice.length == length && slice.seats[0] == first && slice.seats[1] == second)
     }
 
     // Task 3 is cut by the end of core 1, which has its first part, at the end; core 2 has the rest, from tick 0.
     #[test]
     fn three_tasks_on_two_cores(rt: HostRuntime) -> Result<(), Fail> {
-        let mut w = <Wrap as LocalScheduler>::new();
+        let mut w = Wrap::new();
         assert_eq!(rt; w.load(2, 6, &[6, 6, 1]), Err(LocalFault::Misfit));
         assert_eq!(rt; w.load(2, 6, &[7]), Err(LocalFault::Misfit));
         w.load(2, 6, &[6, 6])?;
         w.load(2, 6, &[1, 2, 5])?;
-        next_is(&rt, &mut w, 1, 1, 3)?;
-        next_is(&rt, &mut w, 1, 2, 3)?;
+        assert!(rt; next_is(&mut w, 1, 1, 3)?);
+        assert!(rt; next_is(&mut w, 1, 2, 3)?);
         assert_eq!(rt; w.amount(3), 3);
-        next_is(&rt, &mut w, 1, 2, 0)?;
-        next_is(&rt, &mut w, 3, 3, 0)?;
+        assert!(rt; next_is(&mut w, 1, 2, 0)?);
+        assert!(rt; next_is(&mut w, 3, 3, 0)?);
         assert_eq!(rt; w.ticks_left(), 0);
         w.load(2, 6, &[])?;
-        next_is(&rt, &mut w, 6, 0, 0)
+        assert!(rt; next_is(&mut w, 6, 0, 0)?);
+        Ok(())
     }
 }

@@ -1,8 +1,7 @@
-use Rattle.std.proofs.Common.{◌≡◌, ℕ, ◌+◌, ◌^◌, ◌<◌, List, [], ◌∷◌, ◌++◌, length, Ok, Err, vec_items, sym, refl, ap, ◌∙◌, subst, append-nil, arith, rules}
+use Rattle.std.proofs.Common.{◌≡◌, ℕ, ◌^◌, ◌<◌, List, [], ◌∷◌, ◌++◌, length, Ok, Err, vec_items, sym, ap, ◌∙◌, append-nil, arith, rules}
 use Rattle.dispatch.specs.declared.Stamped.{Stamped}
 use Rattle.dispatch.specs.Counts.{ticks, switches_of, busy_ticks}
-use Rattle.dispatch.specs.Promise.{Promise}
-use Rattle.dispatch.specs.Runs.{Call, Run, handed}
+use Rattle.dispatch.specs.Runs.{Call, handed}
 use Rattle.dispatch.specs.Runs.Call.{next_slice, tally}
 use Rattle.dispatch.specs.Runs.Run.{none, more}
 use Rattle.dispatch.proofs.Charts.{ticks_push}

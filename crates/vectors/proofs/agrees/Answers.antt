@@ -1,4 +1,4 @@
-use Rattle.std.proofs.Common.{ℕ, List, take, sym, ◌∙◌, subst}
+use Rattle.std.proofs.Common.{take, sym, ◌∙◌, subst}
 use Rattle.std.proofs.lemmas.Slice.Eq.{slice_eq-Decides}
 use Rattle.output.specs.Printed.{Printed}
 use Rattle.vectors.proofs.agrees.Goals as goal
