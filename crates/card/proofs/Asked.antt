@@ -1,7 +1,7 @@
 -- The period and the tick of a window that is asked for are within their limits.
 use Rattle.std.proofs.Common.{◌≡◌, ℕ, ◌<◌, ◌≤◌, List, [], ◌∷◌, ◌++◌, length, get_or, ap, ⊎_elim, arith}
 use native.Mathlib.Nat as law
-use Rattle.std.specs.List.{range_with_len, AllByRecursion as All}
+use Rattle.std.specs.List.{range_with_len, AllByRecursion}
 use Rattle.std.proofs.lemmas.List.FromFn.{length-range_with_len, get_or-range_with_len}
 use Rattle.std.proofs.ByRecursion.{All-get_or, All-from_get_or, all_kept_by, All-push}
 use Rattle.std.proofs.lemmas.List.{get_or_past}
@@ -18,8 +18,8 @@ use Rattle.card.proofs.Frames.{frame_one}
 begins_within : (card : Card) (h k : ℕ) → begins card h k ≤ h
 begins_within card h k =
     let P : ℕ → Type 0 = λ x. x ≤ h in
-    let low : All P (range_with_len 0 h) = All-from_get_or P (range_with_len 0 h) 0 (λ i l. omega (arith, length-range_with_len 0 h, get_or-range_with_len 0 h i 0 (omega (arith, length-range_with_len 0 h)))) in
-    let all : All P (boundaries card h ++ h ∷ []) = All-push P (boundaries card h) h (all_kept_by (boundary card) P (range_with_len 0 h) low) (law.le_refl h) in
+    let low : AllByRecursion P (range_with_len 0 h) = All-from_get_or P (range_with_len 0 h) 0 (λ i l. omega (arith, length-range_with_len 0 h, get_or-range_with_len 0 h i 0 (omega (arith, length-range_with_len 0 h)))) in
+    let all : AllByRecursion P (boundaries card h ++ h ∷ []) = All-push P (boundaries card h) h (all_kept_by (boundary card) P (range_with_len 0 h) low) (law.le_refl h) in
     ⊎_elim
     (λ within. All-get_or P (boundaries card h ++ h ∷ []) k h within all)
     (λ past. omega (arith, get_or_past (boundaries card h ++ h ∷ []) k h past))

@@ -1,6 +1,6 @@
 -- A card is judged fine exactly when it is lawful.
 use Rattle.std.proofs.Common.{◌≡◌, ℕ, ◌+◌, ◌<◌, ◌≤◌, false, eqb, ltb, List, [], ◌∷◌, length, get_or, refl, subst, arith}
-use Rattle.std.specs.List.{AllByRecursion as All}
+use Rattle.std.specs.List.{AllByRecursion}
 use Rattle.std.proofs.lemmas.List.{length-take-le}
 use Rattle.std.proofs.ByRecursion.{All-get_or, All-weaker}
 use Rattle.std.proofs.lemmas.Bool.{ltb-false, le-ltb, or_parts, or_from, eqb-true, eq-eqb}
@@ -36,7 +36,7 @@ task_ok h i t s l =
     (unless_ok (outside 1 t.period t.run_time) (12, i, 0) _ (range_inside 1 t.period t.run_time s.2 s.3)
     (unless_ok (ltb 1000000 (lcm h t.period)) (13, i, 0) fine (le-ltb 1000000 (lcm h t.period) l) refl))
 
-pub ok_tasks : (ts : List Task) (h i : ℕ) → h ≤ 1000000 → Ok (judged_tasks h i ts) → All Sound ts × (lcm_with h ts ≤ 1000000)
+pub ok_tasks : (ts : List Task) (h i : ℕ) → h ≤ 1000000 → Ok (judged_tasks h i ts) → AllByRecursion Sound ts × (lcm_with h ts ≤ 1000000)
 ok_tasks [] h i l e = (tt, l)
 ok_tasks (t ∷ ts) h i l e =
     let p = ok_or_else (judged_task h i t) (judged_tasks (lcm h t.period) (i + 1) ts) e in
@@ -44,7 +44,7 @@ ok_tasks (t ∷ ts) h i l e =
     let b = ok_tasks ts (lcm h t.period) (i + 1) a.1 p.1 in
     ((a.0, b.0), b.1)
 
-pub tasks_ok : (ts : List Task) (h i : ℕ) → 1 ≤ h → All Sound ts → lcm_with h ts ≤ 1000000 → Ok (judged_tasks h i ts)
+pub tasks_ok : (ts : List Task) (h i : ℕ) → 1 ≤ h → AllByRecursion Sound ts → lcm_with h ts ≤ 1000000 → Ok (judged_tasks h i ts)
 tasks_ok [] h i some all l = refl
 tasks_ok (t ∷ ts) h i some all l =
     let s = lcm_some h t.period all.0.0 some in

@@ -1,7 +1,7 @@
 -- The ticks of one interval, by the wrap-round line, and a chart made of one block after another.
 use Rattle.std.proofs.Common.{◌≡◌, ℕ, zero, suc, ◌+◌, ◌*◌, ◌<◌, ◌≤◌, eqb, [], ◌++◌, map, length, take, sum_by, count_by, sym, ap, ◌∙◌, ⊎_elim, add-one, arith}
 use native.Mathlib.Nat as law
-use Rattle.std.specs.List.{range_with_len, AllByRecursion as All}
+use Rattle.std.specs.List.{range_with_len, AllByRecursion}
 use Rattle.std.proofs.lemmas.List.{length-append, take_all, take-append-le}
 use Rattle.std.proofs.lemmas.List.FromFn.{length-map-range_with_len}
 use Rattle.std.proofs.ByRecursion.{All-map, All-append}
@@ -28,20 +28,20 @@ module _ (s : ℕ → ℕ) (n cores len : ℕ) where
   length_block = length-map-range_with_len (seats s n cores len) 0 len
 
   -- what holds of every row of seats holds in the block
-  all_block : (P : Row → Type 0) → ((x : ℕ) → P (seats s n cores len x)) → All P (block s n cores len)
+  all_block : (P : Row → Type 0) → ((x : ℕ) → P (seats s n cores len x)) → AllByRecursion P (block s n cores len)
   all_block P f = All-map P (seats s n cores len) (range_with_len 0 len) (all_of _ f (range_with_len 0 len))
 
-  pub block_cores : All (λ row. length row ≡ cores) (block s n cores len)
+  pub block_cores : AllByRecursion (λ row. length row ≡ cores) (block s n cores len)
   block_cores = all_block _ (λ x. length-map-range_with_len (λ c. whose s n (c * len + x)) 0 cores)
 
-  pub block_named : All (λ row. All (λ task. task ≤ n) row) (block s n cores len)
+  pub block_named : AllByRecursion (λ row. AllByRecursion (λ task. task ≤ n) row) (block s n cores len)
   block_named = all_block _ (λ x. All-map (λ task. task ≤ n) (λ c. whose s n (c * len + x)) (range_with_len 0 cores) (all_of _ (λ c. whose_le s n (c * len + x)) (range_with_len 0 cores)))
 
   pub seats_once : ((i : ℕ) → i < n → s i ≤ len) → (x : ℕ) → Once (seats s n cores len x)
   seats_once narrow x zero some = absurd (omega arith)
   seats_once narrow x (suc i) some = omega (arith, sum_by_made (hit (suc i)) (λ c. whose s n (c * len + x)) cores, whose_once s n i len x cores (narrow i))
 
-  pub block_once : ((i : ℕ) → i < n → s i ≤ len) → All Once (block s n cores len)
+  pub block_once : ((i : ℕ) → i < n → s i ≤ len) → AllByRecursion Once (block s n cores len)
   block_once narrow = all_block Once (seats_once narrow)
 
   -- a task gets its share
@@ -58,7 +58,7 @@ abbrev pub charts : (ℕ → Chart) → ℕ → Chart
 charts f zero = []
 charts f (suc n) = charts f n ++ f n
 
-pub all_charts : (P : Row → Type 0) (f : ℕ → Chart) (n : ℕ) → ((k : ℕ) → k < n → All P (f k)) → All P (charts f n)
+pub all_charts : (P : Row → Type 0) (f : ℕ → Chart) (n : ℕ) → ((k : ℕ) → k < n → AllByRecursion P (f k)) → AllByRecursion P (charts f n)
 all_charts P f zero each = tt
 all_charts P f (suc n) each = All-append P (charts f n) (f n) (all_charts P f n (λ k l. each k (omega arith))) (each n (omega arith))
 

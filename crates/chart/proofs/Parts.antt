@@ -1,6 +1,6 @@
 -- Sums over parts of a list, by the sums over its fronts.
 use Rattle.std.proofs.Common.{◌≡◌, ℕ, ◌+◌, ◌-◌, ◌≤◌, length, take, drop, sum_by, sym, ap, ◌∙◌, arith}
-use Rattle.std.specs.List.{AllByRecursion as All}
+use Rattle.std.specs.List.{AllByRecursion}
 use Rattle.std.proofs.lemmas.List.{drop-take, take-take, length-take}
 use Rattle.std.proofs.lemmas.List.Sums.{sum_by-take-drop}
 use Rattle.std.proofs.ByRecursion.{All-take, All-drop}
@@ -16,5 +16,5 @@ part_front f chart a b l =
 pub length_part : (chart : Chart) (a b : ℕ) → length (part a b chart) ≤ b - a
 length_part chart a b = omega (arith, length-take (b - a) (drop a chart))
 
-pub all_part : (P : Row → Type 0) (chart : Chart) (a b : ℕ) → All P chart → All P (part a b chart)
+pub all_part : (P : Row → Type 0) (chart : Chart) (a b : ℕ) → AllByRecursion P chart → AllByRecursion P (part a b chart)
 all_part P chart a b h = All-take P (b - a) (drop a chart) (All-drop P a chart h)

@@ -1,6 +1,6 @@
 -- One where a seat has a task, else 0, and its sum over the tasks.
 use Rattle.std.proofs.Common.{◌≡◌, ℕ, zero, suc, ◌+◌, ◌<◌, ◌≤◌, cond, eqb, ◌⊎◌, List, [], ◌∷◌, refl, inl, inr, ⊎_elim, arith}
-use Rattle.std.specs.List.{AllByRecursion as All}
+use Rattle.std.specs.List.{AllByRecursion}
 use Rattle.std.proofs.lemmas.Bool.{cases_lt, eq-eqb, ne_eqb, cond-true, cond-false}
 use Rattle.chart.specs.Sums.{upto}
 
@@ -33,6 +33,6 @@ one_task x n = ⊎_elim
     (λ some. ⊎_elim (λ past. omega (arith, hits_none x n (inr past))) (λ l. omega (arith, hits_one x n some l)) (cases_lt n x))
     (cases_lt x 1)
 
-pub all_of : {X : Type 0} (P : X → Type 0) → ((x : X) → P x) → (xs : List X) → All P xs
+pub all_of : {X : Type 0} (P : X → Type 0) → ((x : X) → P x) → (xs : List X) → AllByRecursion P xs
 all_of P f [] = tt
 all_of P f (x ∷ xs) = (f x, all_of P f xs)

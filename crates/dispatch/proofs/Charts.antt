@@ -2,7 +2,7 @@
 use Rattle.std.proofs.Common.{◌≡◌, ℕ, zero, suc, ◌+◌, ◌*◌, ◌≤◌, eqb, List, [], ◌∷◌, ◌++◌, length, take, drop, replicate, sum_by, count_by, sym, refl, ap, ◌∙◌, subst, arith}
 use Prim.{tt}
 use native.Mathlib.Nat as law
-use Rattle.std.specs.List.{AllByRecursion as All}
+use Rattle.std.specs.List.{AllByRecursion}
 use Rattle.std.proofs.lemmas.List.{append_assoc, append-nil, length-append, length-replicate, take-append-le, take-append-drop, take_all}
 use Rattle.std.proofs.lemmas.List.Sums.{sum_by-cons, sum_by-append, sum_by_push}
 use Rattle.std.proofs.ByRecursion.{All-append}
@@ -22,7 +22,7 @@ sum_by_replicate f (suc n) x =
     let c = law.mul-suc (f x) n in
     omega (arith, a, b, c)
 
-pub all_replicate : {X : Type 0} (P : X → Type 0) (n : ℕ) (x : X) → P x → All P (replicate n x)
+pub all_replicate : {X : Type 0} (P : X → Type 0) (n : ℕ) (x : X) → P x → AllByRecursion P (replicate n x)
 all_replicate P zero x p = tt
 all_replicate P (suc n) x p = (p, all_replicate P n x p)
 
@@ -79,5 +79,5 @@ got_front task a zs z l =
 pub got_all : (task a : ℕ) (zs : List Stamped) → ticks zs ≤ a → got task (take a (chart zs)) ≡ got task (chart zs)
 got_all task a zs l = let e = length_chart zs in let le : length (chart zs) ≤ a = omega (arith, e, l) in ap (got task) (take_all a (chart zs) le)
 
-pub once_push : (zs : List Stamped) (z : Stamped) → All Once (chart zs) → Once z.slice.seats → All Once (chart (zs ++ z ∷ []))
-once_push zs z all one = subst (All Once) (sym (chart_push zs z)) (All-append Once (chart zs) (replicate z.slice.length z.slice.seats) all (all_replicate Once z.slice.length z.slice.seats one))
+pub once_push : (zs : List Stamped) (z : Stamped) → AllByRecursion Once (chart zs) → Once z.slice.seats → AllByRecursion Once (chart (zs ++ z ∷ []))
+once_push zs z all one = subst (AllByRecursion Once) (sym (chart_push zs z)) (All-append Once (chart zs) (replicate z.slice.length z.slice.seats) all (all_replicate Once z.slice.length z.slice.seats one))

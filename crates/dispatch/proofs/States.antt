@@ -1,7 +1,7 @@
 -- How the slices handed out stand to the interval that is open and to the scheduler.
 use Rattle.std.proofs.Common.{◌≡◌, ℕ, ◌+◌, ◌-◌, ◌*◌, ◌<◌, ◌≤◌, false, eqb, List, get_or, take, drop, count_by, ap, ◌∙◌, arith}
 use native.Mathlib.Nat as law
-use Rattle.std.specs.List.{AllByRecursion as All}
+use Rattle.std.specs.List.{AllByRecursion}
 use Rattle.std.proofs.lemmas.List.{get_or_past, length-take}
 use Rattle.std.proofs.lemmas.Bool.{ne_eqb, cond-false}
 use Rattle.card.specs.declared.types.Card.{Card}
@@ -29,7 +29,7 @@ pub record Sound (card : Card) (h : ℕ) (sheet : Sheet) (first : ℕ) (zs : Lis
   pub past : (i f k : ℕ) → i < card.count → k < sheet.rows → edge card h f (k + 1) ≤ ticks zs → got (i + 1) (take (edge card h f (k + 1)) (chart zs)) ≡ f * total sheet i sheet.rows + total sheet i (k + 1)
   pub few : (f k : ℕ) → k < sheet.rows → begun (edge card h f k) (edge card h f (k + 1)) zs ≤ positive (row sheet k) + 1
   pub later : (a b : ℕ) → ticks zs ≤ a → begun a b zs ≡ 0
-  pub once : All Once (chart zs)
+  pub once : AllByRecursion Once (chart zs)
   pub along : Along (Fine card h sheet first) 0 zs
 
 -- the next slice begins interval k of frame f of the run

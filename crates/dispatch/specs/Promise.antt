@@ -1,7 +1,7 @@
 -- What holds of every run, in terms of the answers alone.
 use Rattle.std.specs.Prelude.{◌≡◌, ℕ, ◌+◌, ◌-◌, ◌%◌, ◌^◌, ◌<◌, ◌≤◌, false, List, [], ◌∷◌, ◌++◌, length, IsOkAnd, count_by}
 use Prim.{Unit}
-use Rattle.std.specs.List.{AllByRecursion as All}
+use Rattle.std.specs.List.{AllByRecursion}
 use Rattle.chart.specs.Charts.{part, got, Once}
 use Rattle.card.specs.declared.types.Card.{Card}
 use Rattle.card.specs.Cards.{Frame, begins, span, run_time_of, opens, closes, boundary}
@@ -21,7 +21,7 @@ pub record Kept (card : Card) (sheet : Sheet) (h first : ℕ) (zs : List Stamped
   -- job j of task i in frame f of the run, whose window has passed, got its run time in it
   pub deadlines : (f i j : ℕ) → i < card.count → closes card i j ≤ h → frame_start h f + closes card i j ≤ length (chart zs) → got (i + 1) (part (frame_start h f + opens card i j) (frame_start h f + closes card i j) (chart zs)) ≡ run_time_of card i
   -- no job holds two cores in one tick
-  pub once : All Once (chart zs)
+  pub once : AllByRecursion Once (chart zs)
   pub first_stamp : (z : Stamped) (later : List Stamped) → zs ≡ z ∷ later → z.stamp ≡ frame_start h first
   pub next_stamps : (early later : List Stamped) (y z : Stamped) → zs ≡ early ++ y ∷ z ∷ later → z.stamp ≡ y.stamp + y.slice.length
   -- interval k of frame f took at most one slice more than it has shares above zero

@@ -1,7 +1,7 @@
 -- Seats and amounts, told of parts of the tables.
 use Rattle.std.proofs.Common.{◌≡◌, ℕ, ◌+◌, ◌-◌, ◌^◌, ◌<◌, ◌≤◌, List, [], ◌∷◌, ◌++◌, length, get_or, take, drop, set, replicate, sym, refl, ap, ◌∙◌, subst, arith}
 use native.Mathlib.Nat.{sub-zero}
-use Rattle.std.specs.List.{AllByRecursion as All}
+use Rattle.std.specs.List.{AllByRecursion}
 use Rattle.std.proofs.lemmas.List.{drop_more}
 use Rattle.std.proofs.ByRecursion.{All-weaker}
 use Rattle.izl_rule.specs.declared.Running.{Running}
@@ -32,13 +32,13 @@ pub front_is : {X : Type 0} (n : ℕ) (xs : List X) → take (n - 0) xs ≡ take
 front_is n xs = ap (λ (m : ℕ). take m xs) (sub-zero n)
 
 module _ (t : Tables) (h : Held (merged (view t))) where
-  low : (rs rs' : List Running) → rs' ≡ rs → All (λ r. r.core < t.width) rs → All (λ r. r.core < 16) rs'
-  low rs rs' e a = subst (All (λ (r : Running). r.core < 16)) (sym e) (All-weaker (λ (r : Running). r.core < t.width) (λ (r : Running). r.core < 16) (λ r l. omega (arith, h.narrow)) rs a)
+  low : (rs rs' : List Running) → rs' ≡ rs → AllByRecursion (λ r. r.core < t.width) rs → AllByRecursion (λ r. r.core < 16) rs'
+  low rs rs' e a = subst (AllByRecursion (λ (r : Running). r.core < 16)) (sym e) (All-weaker (λ (r : Running). r.core < t.width) (λ (r : Running). r.core < 16) (λ r l. omega (arith, h.narrow)) rs a)
 
-  pub taken_low : All (λ r. r.core < 16) (take (t.out - 0) t.taken)
+  pub taken_low : AllByRecursion (λ r. r.core < 16) (take (t.out - 0) t.taken)
   taken_low = low (take t.out t.taken) _ (front_is t.out t.taken) h.inside_taken
 
-  pub running_low : All (λ r. r.core < 16) (take (t.cores - 0) t.running)
+  pub running_low : AllByRecursion (λ r. r.core < 16) (take (t.cores - 0) t.running)
   running_low = low (take t.cores t.running) _ (front_is t.cores t.running) (below (view t) h t.width (take t.cores t.running) h.inside)
 
   pub seats_are : (xs ys : List ℕ) → xs ≡ seated_over (replicate 16 0) (take (t.out - 0) t.taken) → ys ≡ seated_over xs (take (t.cores - 0) t.running) → ys ≡ seats (view t)

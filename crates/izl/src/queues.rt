@@ -1,6 +1,6 @@
 // The core queue and the waiting queue, passage by passage.
 ghost use Rattle.std.specs.Prelude.{◌≡◌, ◌+◌, ◌-◌, ◌<◌, ◌≤◌, ◌++◌, map, length, take, drop, nat_eq, nat_le, slice_index_or, slice_set};
-ghost use Rattle.std.specs.List.{AllByRecursion as All};
+ghost use Rattle.std.specs.List.{AllByRecursion};
 ghost use Rattle.izl_rule.specs.Rule.{nobody, on, lowered, F, G, leaves, takes, refill, take_over, passed, passage, settled};
 ghost use Rattle.izl_rule.specs.Invariant.{Held, merged};
 ghost use Rattle.izl.specs.View.{view, Within, kind_by, kind_of, time_by, turned, Can};
@@ -89,7 +89,7 @@ fn leave_first(queue: &mut [Running], cores: usize)
 
 // Time passes for the first cores of a table.
 fn lower(table: &mut [Running], cores: usize, ticks: u32)
-    requires { (cores ≤ length table.old) × (All (λ r. ticks ≤ r.amount) (take cores table.old)) }
+    requires { (cores ≤ length table.old) × (AllByRecursion (λ r. ticks ≤ r.amount) (take cores table.old)) }
     ensures { table.new ≡ map (lowered ticks) (take cores table.old) ++ drop cores table.old }
 {
     for i in 0..cores {
@@ -151,7 +151,7 @@ impl Tables {
 
     // Time passes.
     fn pass(&mut self, ticks: u32)
-        requires { (Within self.old) × ((ticks ≤ self.old.left) × ((All (λ r. ticks ≤ r.amount) (view self.old).running) × (All (λ r. ticks ≤ r.amount) (view self.old).taken))) }
+        requires { (Within self.old) × ((ticks ≤ self.old.left) × ((AllByRecursion (λ r. ticks ≤ r.amount) (view self.old).running) × (AllByRecursion (λ r. ticks ≤ r.amount) (view self.old).taken))) }
         ensures does { view self.new ≡ passed ticks (view self.old) }
         ensures within { Within self.new }
         ensures able { (kind : Kind) → Can kind self.old → Can kind self.new }

@@ -1,6 +1,6 @@
 // The slice to come, and what is left of a task.
 ghost use Rattle.std.specs.Prelude.{◌≡◌, ◌^◌, ◌<◌, if◌then◌else◌, nat_eq};
-ghost use Rattle.std.specs.List.{AllByRecursion as All};
+ghost use Rattle.std.specs.List.{AllByRecursion};
 ghost use Rattle.izl_rule.specs.Rule.{seats, choice, after, running_of, waiting_of, amount};
 ghost use Rattle.izl_rule.specs.Invariant.{Held, merged};
 ghost use Rattle.izl.specs.View.{view, Within, seated_over};
@@ -11,7 +11,7 @@ use local::Slice;
 
 // Seats the tasks of cores.
 fn seat_all(seats: &mut [u8; 16], cores: &[Running])
-    requires { All (λ r. r.core < 16) cores.now }
+    requires { AllByRecursion (λ r. r.core < 16) cores.now }
     ensures { seats.new ≡ seated_over seats.old cores.now }
 {
     for i in (0..cores.len()).rev() {

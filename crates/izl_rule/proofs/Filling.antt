@@ -1,7 +1,7 @@
 -- The cores take in turn: the first of them get a task each, in the order of the waiting queue.
 use Rattle.std.proofs.Common.{◌≡◌, ℕ, zero, suc, ◌+◌, ◌-◌, ◌<◌, ◌≤◌, min, cond, eqb, ◌⊎◌, List, [], ◌∷◌, ◌++◌, map, length, get_or, drop, count_by, sym, refl, ap, ◌∙◌, inl, inr, append_assoc, append-nil, arith}
 use mathlib.Core.List.{map-append}
-use Rattle.std.specs.List.{AllByRecursion as All}
+use Rattle.std.specs.List.{AllByRecursion}
 use Rattle.std.proofs.lemmas.List.{length-drop}
 use Rattle.std.proofs.lemmas.List.Sums.{sum_by-cons}
 use Rattle.std.proofs.lemmas.Bool.{cond-false, le-ltb, eq-eqb, ne_eqb, cases_eq, cases_lt}
@@ -22,7 +22,7 @@ pub length_cores : (c n : ℕ) → length (cores c n) ≡ n
 length_cores c zero = refl
 length_cores c (suc n) = ap suc (length_cores (c + 1) n)
 
-pub all_cores : (w c n : ℕ) → c + n ≤ w → All (λ x. x < w) (cores c n)
+pub all_cores : (w c n : ℕ) → c + n ≤ w → AllByRecursion (λ x. x < w) (cores c n)
 all_cores w c zero h = tt
 all_cores w c (suc n) h = (omega arith, all_cores w (c + 1) n (omega arith))
 

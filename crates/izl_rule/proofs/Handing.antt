@@ -1,6 +1,6 @@
 -- A slice is handed out as a local scheduler means it, and the next state is as sound.
 use Rattle.std.proofs.Common.{◌≡◌, ℕ, ◌+◌, ◌*◌, ◌<◌, ◌≤◌, cond, ◌&&◌, eqb, leb, ◌⊎◌, List, [], ◌∷◌, ◌++◌, map, length, get_or, count_by, sym, refl, ap, ◌∙◌, inl, inr, mul-le-mul_right, add-mul, arith}
-use Rattle.std.specs.List.{AllByRecursion as All}
+use Rattle.std.specs.List.{AllByRecursion}
 use Rattle.std.proofs.lemmas.List.{length-append}
 use Rattle.std.proofs.lemmas.List.Sums.{sum_by-append}
 use Rattle.std.proofs.ByRecursion.{All-append, All-weaker, All-map}
@@ -30,14 +30,14 @@ module _ (s : State) (h : Held (merged s)) where
   cores_once : (c : ℕ) → at c places ≤ 1
   cores_once c = omega (arith, sum_by-append (λ (r : Running). cond (eqb c r.core) 1 0) s.running s.taken, sum_by_map (λ (x : ℕ). cond (eqb c x) 1 0) (λ (r : Running). r.core) s.running, h.apart c)
 
-  pub below : (w : ℕ) (rs : List Running) → All (λ c. c < w) (map (λ (r : Running). r.core) rs) → All (λ r. r.core < w) rs
+  pub below : (w : ℕ) (rs : List Running) → AllByRecursion (λ c. c < w) (map (λ (r : Running). r.core) rs) → AllByRecursion (λ r. r.core < w) rs
   below w [] a = tt
   below w (r ∷ rs) a = (a.0, below w rs a.1)
 
-  places_in : All (λ r. r.core < s.width) places
+  places_in : AllByRecursion (λ r. r.core < s.width) places
   places_in = All-append (λ (r : Running). r.core < s.width) s.running s.taken (below s.width s.running h.inside) h.inside_taken
 
-  places_low : All (λ r. r.core < 16) places
+  places_low : AllByRecursion (λ r. r.core < 16) places
   places_low = All-weaker (λ (r : Running). r.core < s.width) (λ (r : Running). r.core < 16) (λ r l. omega (arith, h.narrow)) places places_in
 
   seats_above : (c : ℕ) → s.width ≤ c → get_or (seats s) c 0 ≡ 0

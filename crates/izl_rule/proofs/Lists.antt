@@ -1,6 +1,6 @@
 -- Sums over a list without its last or first element, and over jobs that get less.
 use Rattle.std.proofs.Common.{◌≡◌, ℕ, zero, suc, ◌+◌, ◌-◌, ◌*◌, ◌<◌, ◌≤◌, Bool, true, false, cond, eqb, List, [], ◌∷◌, ◌++◌, map, length, get_or, take, drop, sum_by, count_by, sym, refl, ap, ◌∙◌, le_of_suc-le-suc, add-mul, arith}
-use Rattle.std.specs.List.{remove, AllByRecursion as All}
+use Rattle.std.specs.List.{remove, AllByRecursion}
 use Rattle.std.proofs.lemmas.List.{take_all, length_push}
 use Rattle.std.proofs.lemmas.List.Sums.{sum_by_more, sum_by-cons, sum_by_push, sum_by-append, sum_by-drop_more, sum_by-take-drop}
 use Rattle.std.proofs.ByRecursion.{All-append, All-take, All-drop}
@@ -26,7 +26,7 @@ pub sum_by_map : {X Y : Type 0} (f : Y → ℕ) (g : X → Y) (xs : List X) → 
 sum_by_map f g [] = refl
 sum_by_map f g (x ∷ xs) = sum_by-cons f (g x) (map g xs) ∙ ap (λ n. f (g x) + n) (sum_by_map f g xs) ∙ sym (sum_by-cons (λ x. f (g x)) x xs)
 
-pub all_rotated : {X : Type 0} (P : X → Type 0) (xs : List X) → All P xs → All P (drop 1 xs ++ take 1 xs)
+pub all_rotated : {X : Type 0} (P : X → Type 0) (xs : List X) → AllByRecursion P xs → AllByRecursion P (drop 1 xs ++ take 1 xs)
 all_rotated P xs h = All-append P (drop 1 xs) (take 1 xs) (All-drop P 1 xs h) (All-take P 1 xs h)
 
 pub length_rotated : {X : Type 0} (xs : List X) → length (drop 1 xs ++ take 1 xs) ≡ length xs
@@ -82,7 +82,7 @@ module _ (p : ℕ → Bool) (m : ℕ) where
   one_le true a h c k l = omega (arith, add-mul 1 c m)
   one_le false a h c k l = omega (arith, add-mul 0 c m)
 
-  pub held_le : (js : List Job) → All (λ j. j.amount ≤ m) js → held p js ≤ many p js * m
+  pub held_le : (js : List Job) → AllByRecursion (λ j. j.amount ≤ m) js → held p js ≤ many p js * m
   held_le [] h = omega arith
   held_le (j ∷ js) h = simp (sum_by-cons) (one_le (p j.task) j.amount (held p js) (many p js) h.0 (held_le js h.1))
 
@@ -90,7 +90,7 @@ module _ (p : ℕ → Bool) (m : ℕ) where
   one_less true a h c k l e = omega (arith, add-mul 1 c m)
   one_less false a h c k l e = omega (arith, add-mul 0 c m)
 
-  pub held_lowered : (n : ℕ) (js : List Job) → All (λ j. m ≤ j.amount) (take n js) → held p (lowered n m js) + many p (take n js) * m ≡ held p js
+  pub held_lowered : (n : ℕ) (js : List Job) → AllByRecursion (λ j. m ≤ j.amount) (take n js) → held p (lowered n m js) + many p (take n js) * m ≡ held p js
   held_lowered zero js h = omega arith
   held_lowered (suc n) [] h = omega arith
   held_lowered (suc n) (j ∷ js) h = simp (sum_by-cons) (one_less (p j.task) j.amount (held p (lowered n m js)) (many p (take n js)) (held p js) h.0 (held_lowered n js h.1))
@@ -101,7 +101,7 @@ module _ (p : ℕ → Bool) (m : ℕ) where
   many_lowered (suc n) (j ∷ js) = simp (sum_by-cons) (ap (λ c. cond (p j.task) 1 0 + c) (many_lowered n js))
 
 -- the tasks that took cores over get less too
-pub taken_lowered : (task t : ℕ) (rs : List Running) → All (λ r. t ≤ r.amount) rs → running_of task (map (rule.lowered t) rs) + seated task rs * t ≡ running_of task rs
+pub taken_lowered : (task t : ℕ) (rs : List Running) → AllByRecursion (λ r. t ≤ r.amount) rs → running_of task (map (rule.lowered t) rs) + seated task rs * t ≡ running_of task rs
 taken_lowered task t [] h = omega arith
 taken_lowered task t (r ∷ rs) h = simp (sum_by-cons) (one_less (eqb task) t (eqb task r.task) r.amount (running_of task (map (rule.lowered t) rs)) (seated task rs) (running_of task rs) h.0 (taken_lowered task t rs h.1))
 

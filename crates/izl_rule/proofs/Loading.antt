@@ -1,6 +1,6 @@
 -- A load that fits begins a sound state.
 use Rattle.std.proofs.Common.{◌≡◌, ℕ, ◌-◌, ◌*◌, ◌<◌, ◌≤◌, min, true, eqb, ◌⊎◌, List, [], length, get_or, sym, refl, ap, ◌∙◌, subst, inl, inr, arith}
-use Rattle.std.specs.List.{AllByRecursion as All}
+use Rattle.std.specs.List.{AllByRecursion}
 use Rattle.std.proofs.ByRecursion.{All-get_or, All-weaker}
 use Rattle.std.proofs.lemmas.Bool.{cond-false, ne_eqb, cases_eq}
 use Rattle.local.specs.Meaning.{Fit, Loaded, amount_of, share_of}
@@ -31,7 +31,7 @@ module _ (width len : ℕ) (shares : List ℕ) where
   begins = merged_filled 0 width start
 
   module _ (f : Fit width len shares) where
-    js_all : All (λ j. (0 < j.amount) × (j.amount ≤ len)) js
+    js_all : AllByRecursion (λ j. (0 < j.amount) × (j.amount ≤ len)) js
     js_all = ordered_all len 1 [] shares f.narrow tt
 
     begun_held : Held begun

@@ -1,6 +1,6 @@
 -- Time that passes keeps the invariant.
 use Rattle.std.proofs.Common.{◌≡◌, ℕ, zero, suc, ◌+◌, ◌-◌, ◌*◌, ◌<◌, ◌≤◌, true, cond, eqb, ◌⊎◌, List, map, length, get_or, take, sum_by, sym, ap, ◌∙◌, inl, inr, add-mul, mul-add, arith}
-use Rattle.std.specs.List.{AllByRecursion as All}
+use Rattle.std.specs.List.{AllByRecursion}
 use Rattle.std.specs.List.Sorted.{IsNonDecreasingBy}
 use Rattle.std.proofs.lemmas.List.{get_or_default, length-take-le, length-map}
 use Rattle.std.proofs.lemmas.List.Sums.{get_or-le-sum_by}
@@ -26,7 +26,7 @@ rises_from js h i j d le lt =
     let a : i < length js = omega arith in
     rw (get_or_default js i d nothing a, get_or_default js j d nothing lt) (h i j le lt)
 
-pub all_least : (m : ℕ) (js : List Job) → IsNonDecreasingBy (λ j. j.amount) js → (0 < length js → m ≤ (get_or js 0 nothing).amount) → All (λ j. m ≤ j.amount) js
+pub all_least : (m : ℕ) (js : List Job) → IsNonDecreasingBy (λ j. j.amount) js → (0 < length js → m ≤ (get_or js 0 nothing).amount) → AllByRecursion (λ j. m ≤ j.amount) js
 all_least m js r h = All-from_get_or (λ (j : Job). m ≤ j.amount) js nothing (λ k lt. omega (arith, r 0 k nothing (omega arith) lt, h (omega arith)))
 
 pub le_most : (s : Merged) → Held s → (k : ℕ) → k < length s.jobs → (get_or s.jobs k nothing).amount ≤ most s
@@ -34,7 +34,7 @@ le_most s h k lt = h.rises k (length s.jobs - 1) nothing (omega arith) (omega ar
 
 -- time passes that no job on the line exceeds, and that leaves room for all that wait
 module _ (s : Merged) (h : Held s) (t : ℕ) (on : 0 < length s.jobs → t ≤ least s) (off : length s.line < length s.jobs → t + most s ≤ s.left) (within : t ≤ s.left) where
-  pub enough : All (λ j. t ≤ j.amount) (take (length s.line) s.jobs)
+  pub enough : AllByRecursion (λ j. t ≤ j.amount) (take (length s.line) s.jobs)
   enough = All-take (λ (j : Job). t ≤ j.amount) (length s.line) s.jobs (all_least t s.jobs h.rises on)
 
   lower_rises : (i j : ℕ) → i ≤ j → j < length s.jobs → (i < length s.line) ⊎ (length s.line ≤ i) → (j < length s.line) ⊎ (length s.line ≤ j)

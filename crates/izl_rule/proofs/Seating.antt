@@ -1,6 +1,6 @@
 -- The row of seats that cores and their tasks make.
 use Rattle.std.proofs.Common.{◌≡◌, ℕ, zero, suc, ◌+◌, ◌<◌, ◌≤◌, Bool, true, false, cond, eqb, ltb, List, [], ◌∷◌, length, get_or, replicate, count_by, refl, ap, ◌∙◌, arith}
-use Rattle.std.specs.List.{AllByRecursion as All}
+use Rattle.std.specs.List.{AllByRecursion}
 use Rattle.std.proofs.lemmas.List.{length-set, get_or-set_other}
 use Rattle.std.proofs.lemmas.List.Sums.{sum_by-cons, sum_by-set}
 use Rattle.std.proofs.lemmas.Bool.{eq-eqb, ne_eqb, lt-ltb}
@@ -46,28 +46,28 @@ module _ (p : ℕ → Bool) (idle : bit (p 0) ≡ 0) (r : Running) (rs : List Ru
       omega (arith, sum_by-set (λ (x : ℕ). cond (p x) 1 0) (row rs) r.core r.task 0 (omega (arith, length_row rs, within)))
 
 -- each task is in the row as often as on a core
-pub row_count : (task : ℕ) → 1 ≤ task → (rs : List Running) → ((c : ℕ) → at c rs ≤ 1) → All (λ r. r.core < 16) rs → count_by (eqb task) (row rs) ≡ seated task rs
+pub row_count : (task : ℕ) → 1 ≤ task → (rs : List Running) → ((c : ℕ) → at c rs ≤ 1) → AllByRecursion (λ r. r.core < 16) rs → count_by (eqb task) (row rs) ≡ seated task rs
 row_count task some [] h k = rw (ne_eqb task 0 (λ e. omega arith))
 row_count task some (r ∷ rs) h k =
     let idle : bit (eqb task 0) ≡ 0 = rw (ne_eqb task 0 (λ e. omega arith)) in
     omega (arith, sum_by-cons (λ (q : Running). cond (eqb task q.task) 1 0) r rs, row_count task some rs (rest_once (eqb task) idle r rs h k.0) k.1, row_more (eqb task) idle r rs h k.0)
 
 -- each core has its seat
-pub row_full : (rs : List Running) → ((c : ℕ) → at c rs ≤ 1) → All (λ r. r.core < 16) rs → All (λ r. 0 < r.task) rs → count_by (ltb 0) (row rs) ≡ length rs
+pub row_full : (rs : List Running) → ((c : ℕ) → at c rs ≤ 1) → AllByRecursion (λ r. r.core < 16) rs → AllByRecursion (λ r. 0 < r.task) rs → count_by (ltb 0) (row rs) ≡ length rs
 row_full [] h k l = refl
 row_full (r ∷ rs) h k l =
     let one : bit (ltb 0 r.task) ≡ 1 = rw (lt-ltb 0 r.task l.0) in
     omega (arith, row_full rs (rest_once (ltb 0) refl r rs h k.0) k.1 l.1, row_more (ltb 0) refl r rs h k.0)
 
 -- no core is at or above the width
-pub at_none : (w c : ℕ) → w ≤ c → (rs : List Running) → All (λ r. r.core < w) rs → at c rs ≡ 0
+pub at_none : (w c : ℕ) → w ≤ c → (rs : List Running) → AllByRecursion (λ r. r.core < w) rs → at c rs ≡ 0
 at_none w c l [] h = refl
 at_none w c l (r ∷ rs) h =
     let z : bit (eqb c r.core) ≡ 0 = rw (ne_eqb c r.core (λ e. omega (arith, h.0))) in
     omega (arith, sum_by-cons (λ (q : Running). cond (eqb c q.core) 1 0) r rs, at_none w c l rs h.1)
 
 -- a list without task 0
-pub numbered_all : (rs : List Running) → seated 0 rs ≡ 0 → All (λ r. 0 < r.task) rs
+pub numbered_all : (rs : List Running) → seated 0 rs ≡ 0 → AllByRecursion (λ r. 0 < r.task) rs
 numbered_all [] z = tt
 numbered_all (r ∷ rs) z =
     let e = sum_by-cons (λ (q : Running). cond (eqb 0 q.task) 1 0) r rs in

@@ -1,6 +1,6 @@
 -- No task on a core has less left than the time of a passage.
 use Rattle.std.proofs.Common.{◌≡◌, ℕ, ◌-◌, ◌<◌, ◌≤◌, leb, map, length, get_or, ap, ◌∙◌, arith}
-use Rattle.std.specs.List.{AllByRecursion as All}
+use Rattle.std.specs.List.{AllByRecursion}
 use Rattle.std.proofs.lemmas.List.{length-map, get_or_append_left, get_or-map}
 use Rattle.std.proofs.ByRecursion.{All-from_get_or, All-weaker}
 use Rattle.std.proofs.lemmas.Bool.{cond_both, leb-true, ltb-false}
@@ -22,12 +22,12 @@ module _ (s : State) (h : Held (merged s)) where
   job_is : (k : ℕ) → k < length s.running → (get_or (merged s).jobs k nothing).amount ≡ (get_or s.running k nobody).amount
   job_is k l = ap (λ (j : Waiting). j.amount) (get_or_append_left (map job s.running) s.waiting nothing k (omega (arith, length-map s.running job)) ∙ get_or-map job s.running k nobody nothing l)
 
-  pub running_enough : All (λ r. (passage s).0 ≤ r.amount) s.running
+  pub running_enough : AllByRecursion (λ r. (passage s).0 ≤ r.amount) s.running
   running_enough = All-from_get_or (λ (r : Running). (passage s).0 ≤ r.amount) s.running nobody
       (λ k l. omega (arith, time_first (omega arith), job_is 0 (omega arith), job_is k l, h.rises 0 k nothing (omega arith) (omega (arith, jobs_length s))))
 
   pub time_left : (passage s).0 ≤ s.left
   time_left = omega (arith, (a_passage s h).left)
 
-  pub taken_enough : All (λ r. (passage s).0 ≤ r.amount) s.taken
+  pub taken_enough : AllByRecursion (λ r. (passage s).0 ≤ r.amount) s.taken
   taken_enough = All-weaker (λ (r : Running). r.amount ≡ s.left) (λ (r : Running). (passage s).0 ≤ r.amount) (λ r e. omega (arith, time_left)) s.taken h.urgent

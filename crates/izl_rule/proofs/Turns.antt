@@ -1,6 +1,6 @@
 -- A turn keeps the invariant and the amounts, and leaves fewer jobs.
 use Rattle.std.proofs.Common.{◌≡◌, ℕ, suc, ◌+◌, ◌-◌, ◌*◌, ◌<◌, ◌≤◌, Bool, true, cond, eqb, ◌⊎◌, List, [], ◌∷◌, ◌++◌, length, get_or, take, drop, sum_by, sym, refl, ap, ◌∙◌, inl, inr, add-mul, arith}
-use Rattle.std.specs.List.{remove, AllByRecursion as All}
+use Rattle.std.specs.List.{remove, AllByRecursion}
 use Rattle.std.specs.List.Sorted.{IsNonDecreasingBy}
 use Rattle.std.proofs.lemmas.List.{length-take-le, length_push, length-drop, get_or-take, get_or-drop}
 use Rattle.std.proofs.lemmas.List.Sums.{sum_by_push}
@@ -36,7 +36,7 @@ module _ (s : Merged) (h : Held s) (w : length s.line < length s.jobs) (g : most
   -- whichever jobs stay
   record Stay (ks : List Job) : Type 0 where
     up : IsNonDecreasingBy (λ j. j.amount) ks
-    low : All (λ j. j.amount ≤ s.left) ks
+    low : AllByRecursion (λ j. j.amount ≤ s.left) ks
     fewer : length ks < length s.jobs
     staffed : length s.line ≤ length ks + 1
     unended : length s.line < length ks + 1 → 0 < (get_or ks (length s.line - 1) nothing).amount
@@ -86,7 +86,7 @@ module _ (s : Merged) (h : Held s) (w : length s.line < length s.jobs) (g : most
   others_rise : IsNonDecreasingBy (λ j. j.amount) (others s)
   others_rise = IsNonDecreasingBy-take (λ (j : Job). j.amount) (length s.jobs - 1) s.jobs h.rises
 
-  others_low : All (λ j. j.amount ≤ s.left) (others s)
+  others_low : AllByRecursion (λ j. j.amount ≤ s.left) (others s)
   others_low = All-take (λ (j : Job). j.amount ≤ s.left) (length s.jobs - 1) s.jobs h.bounded
 
   put_back_lem : ((get_or (others s) (length s.line - 1) nothing).amount ≡ 0 → ⊥) → Stay (others s)

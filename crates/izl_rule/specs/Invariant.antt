@@ -1,6 +1,6 @@
 -- What a state of IZL keeps, told of both queues as one list.
 use Rattle.std.specs.Prelude.{◌≡◌, ℕ, ◌+◌, ◌*◌, ◌<◌, ◌≤◌, List, ◌++◌, map, length, sum_by, count_by, nat_eq, slice_index_or}
-use Rattle.std.specs.List.{AllByRecursion as All}
+use Rattle.std.specs.List.{AllByRecursion}
 use Rattle.std.specs.List.Sorted.{IsNonDecreasingBy}
 use Rattle.izl_rule.specs.declared.Running.{Running}
 use Rattle.izl_rule.specs.declared.Waiting.{Waiting}
@@ -30,17 +30,17 @@ pub record Held (s : Merged) : Type 0 where
   -- a core is in the line or taken over once, and within the width
   pub narrow : s.width ≤ 16
   pub apart : (c : ℕ) → count_by (nat_eq c) s.line + count_by (λ r. nat_eq c r.core) s.taken ≤ 1
-  pub inside : All (λ c. c < s.width) s.line
-  pub inside_taken : All (λ r. r.core < s.width) s.taken
+  pub inside : AllByRecursion (λ c. c < s.width) s.line
+  pub inside_taken : AllByRecursion (λ r. r.core < s.width) s.taken
   -- no task is there twice, none above 32, and no task 0
   pub tasks : (task : ℕ) → counted task s.jobs + seated task s.taken ≤ 1
   pub known : (task : ℕ) → 32 < task → counted task s.jobs + seated task s.taken ≡ 0
   pub numbered : counted 0 s.jobs + seated 0 s.taken ≡ 0
   -- the amounts rise, and none is above what is left
   pub rises : IsNonDecreasingBy (λ j. j.amount) s.jobs
-  pub bounded : All (λ j. j.amount ≤ s.left) s.jobs
+  pub bounded : AllByRecursion (λ j. j.amount ≤ s.left) s.jobs
   -- a task that took a core over has as much left as there are ticks
-  pub urgent : All (λ r. r.amount ≡ s.left) s.taken
+  pub urgent : AllByRecursion (λ r. r.amount ≡ s.left) s.taken
   -- each core of the line has a job
   pub staffed : length s.line ≤ length s.jobs
   -- what waits has ticks left, finds room on the line, and leaves no core idle

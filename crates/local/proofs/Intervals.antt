@@ -1,6 +1,6 @@
 -- The slices of any load serve its interval: from the clauses of a local scheduler alone.
 use Rattle.std.proofs.Common.{◌≡◌, ℕ, zero, suc, ◌-◌, ◌*◌, ◌<◌, ◌≤◌, eqb, ◌⊎◌, List, [], ◌∷◌, length, get_or, replicate, count_by, sym, ◌∙◌, inl, inr, mul-suc, arith}
-use Rattle.std.specs.List.{AllByRecursion as All}
+use Rattle.std.specs.List.{AllByRecursion}
 use Rattle.std.proofs.lemmas.List.{length-append, length-replicate, get_or_past}
 use Rattle.std.proofs.lemmas.List.Sums.{sum_by-cons, sum_by-append}
 use Rattle.std.proofs.ByRecursion.{All-append, All-get_or}
@@ -14,7 +14,7 @@ got_replicate : (task n : ℕ) (row : Row) → got task (replicate n row) ≡ co
 got_replicate task zero row = omega arith
 got_replicate task (suc n) row = omega (arith, sum_by-cons (λ (r : Row). count_by (eqb task) r) row (replicate n row), got_replicate task n row, mul-suc (count_by (eqb task) row) n)
 
-all_replicate : (P : Row → Type 0) (n : ℕ) (row : Row) → P row → All P (replicate n row)
+all_replicate : (P : Row → Type 0) (n : ℕ) (row : Row) → P row → AllByRecursion P (replicate n row)
 all_replicate P zero row p = tt
 all_replicate P (suc n) row p = (p, all_replicate P n row p)
 
@@ -29,7 +29,7 @@ module _ {S : Type 0} (m : Local S) where
   gets task some s (z ∷ zs) s' l e =
       omega (arith, sum_by-append (λ (r : Row). count_by (eqb task) r) (replicate z.length z.seats) (laid zs), got_replicate task z.length z.seats, gets task some e.0 zs s' (e.1.fits task) e.2, e.1.amounts task some)
 
-  once : (s : S) (zs : List Slice) (s' : S) → Slices m s zs s' → All Once (laid zs)
+  once : (s : S) (zs : List Slice) (s' : S) → Slices m s zs s' → AllByRecursion Once (laid zs)
   once s [] s' e = tt
   once s (z ∷ zs) s' e = All-append Once (replicate z.length z.seats) (laid zs) (all_replicate Once z.length z.seats e.1.once) (once e.0 zs s' e.2)
 

@@ -1,6 +1,6 @@
 -- The slices of an interval, for any local scheduler.
 use Rattle.std.specs.Prelude.{◌≡◌, ℕ, ◌+◌, ◌≤◌, List, [], ◌∷◌, ◌++◌, length, replicate}
-use Rattle.std.specs.List.{AllByRecursion as All}
+use Rattle.std.specs.List.{AllByRecursion}
 use Rattle.chart.specs.Charts.{Chart, got, Once}
 use Rattle.local.specs.Meaning.{Local, Loaded, Handed, share_of, positive}
 use Rattle.local.specs.declared.slice.Slice.{Slice}
@@ -23,7 +23,7 @@ laid (z ∷ zs) = replicate z.length z.seats ++ laid zs
 pub record Served (len : ℕ) (shares : List ℕ) (zs : List Slice) : Type 0 where
   pub whole : length (laid zs) ≡ len
   pub gets : (task : ℕ) → 1 ≤ task → got task (laid zs) ≡ share_of shares task
-  pub once : All Once (laid zs)
+  pub once : AllByRecursion Once (laid zs)
   pub few : length zs ≤ positive shares + 1
 
 -- P of each slice and the state that it is handed out in

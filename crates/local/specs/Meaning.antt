@@ -1,6 +1,6 @@
 -- What a local scheduler holds, and what load and next do to that.
 use Rattle.std.specs.Prelude.{◌≡◌, ℕ, ◌+◌, ◌-◌, ◌*◌, ◌<◌, ◌≤◌, cond, ◌&&◌, List, length, sum, count_by, ◌==◌, nat_eq, nat_le, nat_lt, slice_index}
-use Rattle.std.specs.List.{AllByRecursion as All}
+use Rattle.std.specs.List.{AllByRecursion}
 use Rattle.local.specs.declared.slice.Slice.{Slice}
 
 -- What it holds, and, as far as an implementation tells, where a load and a next lead.
@@ -36,7 +36,7 @@ Limits width len count = (1 ≤ width) × (width ≤ 16) × (1 ≤ len) × (len 
 -- when load takes a width, a length and shares
 pub record Fit (width len : ℕ) (shares : List ℕ) : Type 0 where
   pub limits : Limits width len (length shares)
-  pub narrow : All (λ share. share ≤ len) shares
+  pub narrow : AllByRecursion (λ share. share ≤ len) shares
   pub room : sum shares ≤ width * len
 
 pub record Loaded {S : Type 0} (m : Local S) (s : S) (width len : ℕ) (shares : List ℕ) (s' : S) : Type 0 where

@@ -1,6 +1,6 @@
 -- A sheet that meets the equations has a timetable.
 use Rattle.std.proofs.Common.{◌≡◌, ℕ, suc, ◌+◌, ◌*◌, ◌<◌, ◌≤◌, eqb, length, count_by, sym, ap, ◌∙◌, subst, arith}
-use Rattle.std.specs.List.{AllByRecursion as All}
+use Rattle.std.specs.List.{AllByRecursion}
 use Rattle.card.specs.declared.types.Card.{Card}
 use Rattle.sheet.specs.declared.types.Sheet.{Sheet}
 use Rattle.chart.specs.Charts.{Row, Chart, part, got, Once}
@@ -30,13 +30,13 @@ module _ (card : Card) (h : ℕ) (sheet : Sheet) (f : Frame card h) (m : Meets c
   ticks : length (wrapped card h sheet) ≡ h
   ticks = length_charts (block_at card h sheet) (begins card h) marks.start sheet.rows each ∙ ap (begins card h) m.rows ∙ marks.end
 
-  cores : All (λ row. length row ≡ card.cores) (wrapped card h sheet)
+  cores : AllByRecursion (λ row. length row ≡ card.cores) (wrapped card h sheet)
   cores = all_charts _ (block_at card h sheet) sheet.rows (λ k l. block_cores (share sheet k) sheet.count card.cores (span card h k))
 
-  named : All (λ row. All (λ task. task ≤ card.count) row) (wrapped card h sheet)
-  named = subst (λ n. All (λ row. All (λ task. task ≤ n) row) (wrapped card h sheet)) m.count (all_charts _ (block_at card h sheet) sheet.rows (λ k l. block_named (share sheet k) sheet.count card.cores (span card h k)))
+  named : AllByRecursion (λ row. AllByRecursion (λ task. task ≤ card.count) row) (wrapped card h sheet)
+  named = subst (λ n. AllByRecursion (λ row. AllByRecursion (λ task. task ≤ n) row) (wrapped card h sheet)) m.count (all_charts _ (block_at card h sheet) sheet.rows (λ k l. block_named (share sheet k) sheet.count card.cores (span card h k)))
 
-  once : All Once (wrapped card h sheet)
+  once : AllByRecursion Once (wrapped card h sheet)
   once = all_charts Once (block_at card h sheet) sheet.rows (λ k l. block_once (share sheet k) sheet.count card.cores (span card h k) (λ i li. m.narrow k i l li))
 
   -- a task gets its share in each interval

@@ -1,7 +1,7 @@
 -- A sheet with a timetable meets the equations.
 use Rattle.std.proofs.Common.{◌≡◌, ℕ, ◌+◌, ◌-◌, ◌*◌, ◌<◌, ◌≤◌, eqb, length, sum, count_by, ◌∙◌, arith}
 use native.Mathlib.Nat as law
-use Rattle.std.specs.List.{AllByRecursion as All}
+use Rattle.std.specs.List.{AllByRecursion}
 use Rattle.std.proofs.ByRecursion.{sum_by_le, All-weaker}
 use Rattle.card.specs.declared.types.Card.{Card}
 use Rattle.sheet.specs.declared.types.Sheet.{Sheet}
@@ -20,10 +20,10 @@ use Rattle.chart.proofs.Tallies.{hit, one_task, all_of}
 pub row_full : (seats : Row) (n : ℕ) → upto (λ i. count_by (eqb (i + 1)) seats) n ≤ length seats
 row_full seats n = omega (arith, sum_by_swap (λ i x. hit (i + 1) x) seats n, sum_by_le (λ x. upto (λ i. hit (i + 1) x) n) 1 seats (all_of _ (λ x. one_task x n) seats))
 
-pub chart_full : (cores : ℕ) (chart : Chart) (n : ℕ) → All (λ seats. length seats ≡ cores) chart → upto (λ i. got (i + 1) chart) n ≤ length chart * cores
+pub chart_full : (cores : ℕ) (chart : Chart) (n : ℕ) → AllByRecursion (λ seats. length seats ≡ cores) chart → upto (λ i. got (i + 1) chart) n ≤ length chart * cores
 chart_full cores chart n all = omega (arith, sum_by_swap (λ i seats. count_by (eqb (i + 1)) seats) chart n, sum_by_le (λ seats. upto (λ i. count_by (eqb (i + 1)) seats) n) cores chart (All-weaker _ _ (λ seats e. omega (arith, e, row_full seats n)) chart all))
 
-pub part_narrow : (chart : Chart) (i a b : ℕ) → All Once chart → got (i + 1) (part a b chart) ≤ b - a
+pub part_narrow : (chart : Chart) (i a b : ℕ) → AllByRecursion Once chart → got (i + 1) (part a b chart) ≤ b - a
 part_narrow chart i a b once = omega (arith, length_part chart a b, sum_by_le (λ seats. count_by (eqb (i + 1)) seats) 1 (part a b chart) (All-weaker Once _ (λ seats o. o (i + 1) (omega arith)) (part a b chart) (all_part Once chart a b once)))
 
 module _ (card : Card) (h : ℕ) (chart : Chart) (sheet : Sheet) (f : Frame card h) (t : Timetable card h chart) (s : Shares card h chart sheet) where

@@ -1,7 +1,7 @@
 -- A sheet is judged fine, for a card with periods, exactly when it meets the equations.
 use Rattle.std.proofs.Common.{◌≡◌, ℕ, ◌+◌, ◌*◌, ◌/◌, ◌<◌, ◌≤◌, ◌&&◌, eqb, ltb, List, [], ◌∷◌, length, get_or, drop, sum, sym, refl, ◌∙◌, subst, ⊎_elim, add-one, arith}
 use native.Mathlib.Nat as law
-use Rattle.std.specs.List.{range_with_len, AllByRecursion as All}
+use Rattle.std.specs.List.{range_with_len, AllByRecursion}
 use Rattle.std.proofs.lemmas.List.{get_or-take, get_or-drop, get_or_past, length-take}
 use Rattle.std.proofs.ByRecursion.{All-get_or, All-from_get_or}
 use Rattle.std.proofs.lemmas.Bool.{ltb-false, le-ltb, eqb-true, eq-eqb, and_parts, and_from, cases_lt}
@@ -13,11 +13,11 @@ use Rattle.card.specs.Verdicts.{fine, each}
 use Rattle.sheet.specs.Verdicts.{judged_shares, judged_row, in_window, judged_job, judged_sheet, Meets, judged_jobs}
 use Rattle.card.proofs.Judges.{Ok, Clean, ok_or_else, or_else_ok, clean_or_else, ok_unless, unless_ok, ok_when, when_ok, clean_when, ok_below, below_ok, clean_each}
 
-pub ok_shares : (len k i : ℕ) (xs : List ℕ) → Ok (judged_shares len k i xs) → All (λ x. x ≤ len) xs
+pub ok_shares : (len k i : ℕ) (xs : List ℕ) → Ok (judged_shares len k i xs) → AllByRecursion (λ x. x ≤ len) xs
 ok_shares len k i [] e = tt
 ok_shares len k i (x ∷ xs) e = let p = ok_unless (ltb len x) (22, k, i) (judged_shares len k (i + 1) xs) (λ z. omega arith) e in (ltb-false len x p.0, ok_shares len k (i + 1) xs p.1)
 
-pub shares_ok : (len k i : ℕ) (xs : List ℕ) → All (λ x. x ≤ len) xs → Ok (judged_shares len k i xs)
+pub shares_ok : (len k i : ℕ) (xs : List ℕ) → AllByRecursion (λ x. x ≤ len) xs → Ok (judged_shares len k i xs)
 shares_ok len k i [] all = refl
 shares_ok len k i (x ∷ xs) all = unless_ok (ltb len x) (22, k, i) (judged_shares len k (i + 1) xs) (le-ltb len x all.0) (shares_ok len k (i + 1) xs all.1)
 
@@ -25,13 +25,13 @@ shares_ok len k i (x ∷ xs) all = unless_ok (ltb len x) (22, k, i) (judged_shar
 pub row_share : (sheet : Sheet) (k i : ℕ) → i < sheet.count → get_or (row sheet k) i 0 ≡ share sheet k i
 row_share sheet k i l = get_or-take sheet.count (drop (k * sheet.count) sheet.shares) i 0 l ∙ get_or-drop (k * sheet.count) sheet.shares i 0
 
-pub all_row : (sheet : Sheet) (k len : ℕ) → All (λ x. x ≤ len) (row sheet k) → (i : ℕ) → i < sheet.count → share sheet k i ≤ len
+pub all_row : (sheet : Sheet) (k len : ℕ) → AllByRecursion (λ x. x ≤ len) (row sheet k) → (i : ℕ) → i < sheet.count → share sheet k i ≤ len
 all_row sheet k len all i l = ⊎_elim
     (λ there. omega (arith, row_share sheet k i l, All-get_or (λ x. x ≤ len) (row sheet k) i 0 there all))
     (λ past. omega (arith, row_share sheet k i l, get_or_past (row sheet k) i 0 past))
     (cases_lt i (length (row sheet k)))
 
-pub row_all : (sheet : Sheet) (k len : ℕ) → ((i : ℕ) → i < sheet.count → share sheet k i ≤ len) → All (λ x. x ≤ len) (row sheet k)
+pub row_all : (sheet : Sheet) (k len : ℕ) → ((i : ℕ) → i < sheet.count → share sheet k i ≤ len) → AllByRecursion (λ x. x ≤ len) (row sheet k)
 row_all sheet k len each = All-from_get_or (λ x. x ≤ len) (row sheet k) 0 (λ i l. let m : i < sheet.count = omega (arith, length-take sheet.count (drop (k * sheet.count) sheet.shares)) in omega (arith, row_share sheet k i m, each i m))
 
 module _ (card : Card) (h : ℕ) (sheet : Sheet) (some : (i : ℕ) → i < card.count → 1 ≤ period_of card i) where

@@ -1,6 +1,6 @@
 -- What a timetable is, and when a sheet has one.
 use Rattle.std.specs.Prelude.{◌≡◌, ℕ, ◌+◌, ◌<◌, ◌≤◌, Bool, length}
-use Rattle.std.specs.List.{AllByRecursion as All}
+use Rattle.std.specs.List.{AllByRecursion}
 use Rattle.chart.specs.Charts.{Chart, part, got, Once}
 use Rattle.card.specs.declared.types.Card.{Card}
 use Rattle.card.specs.Cards.{Frame, boundaries, begins, run_time_of, opens, closes}
@@ -12,9 +12,9 @@ use Rattle.sheet.specs.Sheets.{share}
 -- in exactly its run time of the ticks of its window.
 pub record Timetable (card : Card) (h : ℕ) (chart : Chart) : Type 0 where
   pub ticks : length chart ≡ h
-  pub cores : All (λ row. length row ≡ card.cores) chart
-  pub named : All (λ row. All (λ task. task ≤ card.count) row) chart
-  pub once : All Once chart
+  pub cores : AllByRecursion (λ row. length row ≡ card.cores) chart
+  pub named : AllByRecursion (λ row. AllByRecursion (λ task. task ≤ card.count) row) chart
+  pub once : AllByRecursion Once chart
   pub windows : (i j : ℕ) → i < card.count → closes card i j ≤ h → got (i + 1) (part (opens card i j) (closes card i j) chart) ≡ run_time_of card i
 
 -- the sheet has the card's counts, and its shares are what each task gets in each interval of the chart

@@ -1,5 +1,5 @@
 use Rattle.std.proofs.Common.{◌≡◌, ℕ, ◌*◌, ◌≤◌, take, sum, refl, ap, ◌∙◌, subst, arith}
-use Rattle.std.specs.List.{AllByRecursion as All}
+use Rattle.std.specs.List.{AllByRecursion}
 use Rattle.std.proofs.lemmas.List.{take_all}
 use Rattle.std.proofs.lemmas.List.Sums.{sum_by_more}
 use Rattle.std.proofs.ByRecursion.{All-more, All-get_or}
@@ -28,7 +28,7 @@ returns c =
     record {
       yes = λ e. record {
         limits = c.if-not-in_limits.ensures.yes refl;
-        narrow = subst (All (λ (x : ℕ). x ≤ c.args.length)) all c.loop-share.invariant.0;
+        narrow = subst (AllByRecursion (λ (x : ℕ). x ≤ c.args.length)) all c.loop-share.invariant.0;
         room = omega (arith, total, area, leb-true c.loop-share.sum (c.from.result * c.from-2.result) e);
       };
       not = λ e f. omega (arith, total, area, f.room, leb-false c.loop-share.sum (c.from.result * c.from-2.result) e);

@@ -1,5 +1,5 @@
 use Rattle.std.proofs.Common.{◌≡◌, ℕ, ◌≤◌, sym, ap, ◌∙◌, subst, arith}
-use Rattle.std.specs.List.{AllByRecursion as All}
+use Rattle.std.specs.List.{AllByRecursion}
 use Rattle.izl_rule.specs.declared.Running.{Running}
 use Rattle.izl_rule.specs.Rule.{State, passed}
 use Rattle.izl_rule.proofs.Times.{time_left, running_enough, taken_enough}
@@ -16,8 +16,8 @@ pass-requires c =
       (
         omega (arith, e, time_left s c.requires.1),
         (
-          subst (λ (n : ℕ). All (λ (r : Running). n ≤ r.amount) s.running) e (running_enough s c.requires.1),
-          subst (λ (n : ℕ). All (λ (r : Running). n ≤ r.amount) s.taken) e (taken_enough s c.requires.1),
+          subst (λ (n : ℕ). AllByRecursion (λ (r : Running). n ≤ r.amount) s.running) e (running_enough s c.requires.1),
+          subst (λ (n : ℕ). AllByRecursion (λ (r : Running). n ≤ r.amount) s.taken) e (taken_enough s c.requires.1),
         ),
       ),
     )
