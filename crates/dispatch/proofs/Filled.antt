@@ -59,10 +59,10 @@ module _ (p : Placement) (card : Card) (sheet : Sheet) (h : Holds p card sheet) 
 
   pub meant_by : (cores len : ℕ) (shares : List ℕ) → cores ≡ cores_in (held p) → len ≡ start_in (held p) (k + 1) - start_in (held p) k → shares ≡ row_at_in (held p) k → ◌≡◌ {A = Load} (cores, len, shares) meant
   meant_by cores len shares c l s =
-      let cores-is : cores ≡ card.cores = c ∙ ap cores_in h in
-      let span-is : len ≡ span card (frame_of (tasks_of card)) k = l ∙ ap (λ (o : Option (Card × Sheet)). start_in o (k + 1) - start_in o k) h in
+      let cores_is : cores ≡ card.cores = c ∙ ap cores_in h in
+      let span_is : len ≡ span card (frame_of (tasks_of card)) k = l ∙ ap (λ (o : Option (Card × Sheet)). start_in o (k + 1) - start_in o k) h in
       let row_is : shares ≡ row sheet k = s ∙ row_there in
-      λ i. (cores-is i, span-is i, row_is i)
+      λ i. (cores_is i, span_is i, row_is i)
 
   pub fit_there : Fit meant.0 meant.1 meant.2
   fit_there = fit_of card (frame_of (tasks_of card)) sheet (good_held p card sheet h) (meets_held p card sheet h) k within

@@ -55,7 +55,7 @@ pub record Core {S : Type 0} (m : Local S) (p : Placement) (card : Card) (h : �
   pub follows : Follows m card sheet h s zs d.scheduler
   pub phase : Before card first d zs ⊎ Amid m card h sheet first d zs
 
-module _ {S : Type 0} (m : Local S) (p : Placement) (card : Card) (h : ℕ) (sheet : Sheet) (good : Good card h sheet) (s : S) (first : ℕ) (d d' : Dispatcher S) (zs : List Stamped) (core : Core m p card h sheet s first d zs) (f k : ℕ) (in-time : first + f < 2 ^ 32) (start : Bool) (s₁ : S) (z : Stamped) (mid : Mid m card h sheet f k s₁ zs) (out : Out m card h (first + f) k start s₁ z d d') where
+module _ {S : Type 0} (m : Local S) (p : Placement) (card : Card) (h : ℕ) (sheet : Sheet) (good : Good card h sheet) (s : S) (first : ℕ) (d d' : Dispatcher S) (zs : List Stamped) (core : Core m p card h sheet s first d zs) (f k : ℕ) (in_time : first + f < 2 ^ 32) (start : Bool) (s₁ : S) (z : Stamped) (mid : Mid m card h sheet f k s₁ zs) (out : Out m card h (first + f) k start s₁ z d d') where
   -- the run is not over, and not longer than all frames
   pub short : first * h + ticks zs + z.slice.length ≤ 2 ^ 32 * h
   short =
@@ -64,7 +64,7 @@ module _ {S : Type 0} (m : Local S) (p : Placement) (card : Card) (h : ℕ) (she
       let c = a.2 in
       let within = mid.within in
       let top = to_h card h sheet good (k + 1) (omega (arith, within)) in
-      let mul : suc (first + f) * h ≤ 2 ^ 32 * h = law.mul-le-mul_right h in-time in
+      let mul : suc (first + f) * h ≤ 2 ^ 32 * h = law.mul-le-mul_right h in_time in
       let e = law.suc-mul (first + f) h in
       let g = law.add-mul first f h in
       omega (arith, b, c, top, mul, e, g)
@@ -89,7 +89,7 @@ module _ {S : Type 0} (m : Local S) (p : Placement) (card : Card) (h : ℕ) (she
       let O : (i : ℕ) → i < card.count → Owes card h sheet f k i (cond (start && eqb ((begins card h (k + 1) - m.left s₁) % period_of card i) 0) (run_time_of card i) (get_or d.books.accounts i nothing).owed - seated z.slice (i + 1) * z.slice.length) (got (i + 1) (chart (zs ++ z ∷ []))) = λ i l. owes_hand card h sheet good i l m f k (cond (start && eqb ((begins card h (k + 1) - m.left s₁) % period_of card i) 0) (run_time_of card i) (get_or d.books.accounts i nothing).owed) zs z s₁ d'.scheduler mid out.handed (owed i l) in
       record {
         placement = out.placement ∙ core.placement;
-        early = omega (arith, fr, in-time);
+        early = omega (arith, fr, in_time);
         sound = sound;
         tally = tally_push card h sheet first zs z d.books d'.books start (begins card h (k + 1) - m.left s₁) core.tally out.books fine rel seats (omega (arith, sh, big));
         follows = follows;

@@ -29,7 +29,7 @@ module _ {S : Type 0} (m : Local S) (p : Placement) (card : Card) (h : ℕ) (she
   Next = Core m p card h sheet s first d' (zs ++ z ∷ []) × (first * h + ticks zs < 2 ^ 32 * h)
 
   pub start_step : (f k : ℕ) (s₁ : S) → first + f < 2 ^ 32 → Open card h sheet f k zs → ((i : ℕ) → i < card.count → (begins card h k % period_of card i ≡ 0 → ⊥) → Owes card h sheet f k i (get_or d.books.accounts i nothing).owed (got (i + 1) (chart zs))) → Loaded m d.scheduler card.cores (begins card h (k + 1) - begins card h k) (row sheet k) s₁ → Out m card h (first + f) k true s₁ z d d' → Next
-  start_step f k s₁ in-time o old loaded out =
+  start_step f k s₁ in_time o old loaded out =
       let mid = load m card h sheet good first f k zs d.scheduler s₁ o core.sound loaded in
       let within = o.within in
       let up = good.rising k within in
@@ -39,8 +39,8 @@ module _ {S : Type 0} (m : Local S) (p : Placement) (card : Card) (h : ℕ) (she
       let at : ticks zs % h ≡ begins card h k = in_frame (ticks zs) f h (begins card h k) o.at (omega (arith, up, top)) in
       let owes : (i : ℕ) → i < card.count → Owes card h sheet f k i (cond (true && eqb ((begins card h (k + 1) - m.left s₁) % period_of card i) 0) (run_time_of card i) (get_or d.books.accounts i nothing).owed) (got (i + 1) (chart zs)) = λ i l. let t : ℕ = (begins card h (k + 1) - m.left s₁) % period_of card i in let same : t ≡ begins card h k % period_of card i = ap (λ (n : ℕ). n % period_of card i) tick in cond_both (eqb t 0) (run_time_of card i) (get_or d.books.accounts i nothing).owed (λ x. Owes card h sheet f k i x (got (i + 1) (chart zs))) (λ e. owes_anew card h sheet good i l f k zs o (sym same ∙ eqb-true t 0 e)) (λ e. old i l (λ q. eqb-false t 0 e (same ∙ q))) in
       let rel : released (tasks_of card) (ticks zs % h) ≡ true = ap (released (tasks_of card)) at ∙ good.releases k within in (
-        slice_core m p card h sheet good s first d d' zs core f k in-time true s₁ z mid out rel (λ e. absurd (true≢false e)) owes (opening zs z k d.scheduler s₁ d'.scheduler core.follows within at loaded out.handed),
-        not_over m p card h sheet good s first d d' zs core f k in-time true s₁ z mid out,
+        slice_core m p card h sheet good s first d d' zs core f k in_time true s₁ z mid out rel (λ e. absurd (true≢false e)) owes (opening zs z k d.scheduler s₁ d'.scheduler core.follows within at loaded out.handed),
+        not_over m p card h sheet good s first d d' zs core f k in_time true s₁ z mid out,
       )
 
   pub inside_step : (a : Amid m card h sheet first d zs) → (m.left d.scheduler ≡ 0 → ⊥) → Out m card h (first + a.f) a.k false d.scheduler z d d' → Next
@@ -56,13 +56,13 @@ module _ {S : Type 0} (m : Local S) (p : Placement) (card : Card) (h : ℕ) (she
       let early = core.early in
       let hands = out.handed.some in
       let wit = out.handed.within in
-      let in-time : first + f < 2 ^ 32 = omega (arith, fr, early) in
+      let in_time : first + f < 2 ^ 32 = omega (arith, fr, early) in
       let top = to_h card h sheet good (k + 1) (omega (arith, within)) in
       let t : ℕ = ticks zs - f * h in
       let whole : ticks zs ≡ f * h + t = omega (arith, low, last) in
       let small : t < begins card h (k + 1) = omega (arith, whole, at, hands, wit) in
       let tick : ticks zs % h ≡ t = in_frame (ticks zs) f h t whole (omega (arith, small, top)) in
       let rel : released (tasks_of card) (ticks zs % h) ≡ false = ap (released (tasks_of card)) tick ∙ good.quiet k t within (omega (arith, whole, low, last)) small in (
-        slice_core m p card h sheet good s first d d' zs core f k in-time false d.scheduler z mid out rel (λ e. a.seats) a.owes (going_on zs z d.scheduler d'.scheduler core.follows rel out.handed),
-        not_over m p card h sheet good s first d d' zs core f k in-time false d.scheduler z mid out,
+        slice_core m p card h sheet good s first d d' zs core f k in_time false d.scheduler z mid out rel (λ e. a.seats) a.owes (going_on zs z d.scheduler d'.scheduler core.follows rel out.handed),
+        not_over m p card h sheet good s first d d' zs core f k in_time false d.scheduler z mid out,
       )

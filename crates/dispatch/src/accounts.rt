@@ -1,5 +1,4 @@
 // How the books are opened, and how a slice is entered in them.
-ghost use Rattle.std.specs.Int.Count.{ones};
 ghost use Rattle.std.specs.Prelude.{◌≡◌, ℕ, ◌+◌, ◌*◌, ◌%◌, ◌<◌, ◌≤◌, not, ◌&&◌, [], get_or, if◌then◌else◌, count_by, ◌==◌, nat_eq, slice_index_or, slice_set};
 ghost use Rattle.dispatch.specs.Counts.{changed};
 ghost use Rattle.dispatch.specs.Books.{nothing, paid, anew, tallied, Opened, paid_to, Entered};

@@ -24,7 +24,7 @@ begins_within card h k f =
     let n : ℕ = length (boundaries card h) in
     ⊎_elim
     (λ (past : n < k). let e = get_or_past (boundaries card h ++ h ∷ []) k h (omega (arith, past, length_push (boundaries card h) h)) in omega (arith, e))
-    (λ (in-it : k ≤ n). omega (arith, m.end, below (begins card h) n m.rise k n in-it (law.le_refl n)))
+    (λ (in_it : k ≤ n). omega (arith, m.end, below (begins card h) n m.rise k n in_it (law.le_refl n)))
     (cases_lt n k)
 
 module _ {S : Type 0} (m : Local S) (card : Card) (sheet : Sheet) (s : S) (number h : ℕ) (frame : Frame card h) where

@@ -79,12 +79,12 @@ holds note card sheet short same tasks shares =
     let f : Fields bs a b card.cores n sheet.rows =
     fields bs a b card.cores n sheet.rows (ap (drop (length bs - 12)) (sym whole) ∙ drop_at (note ++ (e ++ s)) t (length bs - 12) before)
     (omega arith) (omega (arith, card.few_tasks)) (omega (arith, card.few_cores)) (omega (arith, card.few_tasks)) (omega (arith, sheet.few_rows)) in
-    let at-card : drop a bs ≡ e ++ (s ++ t) = drop_at note (e ++ (s ++ t)) a refl in
-    let at-sheet : drop b bs ≡ s ++ t =
+    let at_card : drop a bs ≡ e ++ (s ++ t) = drop_at note (e ++ (s ++ t)) a refl in
+    let at_sheet : drop b bs ≡ s ++ t =
     ap (drop b) (sym (append_assoc note e (s ++ t))) ∙ drop_at (note ++ e) (s ++ t) b (length-append note e ∙ omega arith) in
     let count : rows_in bs * count_in bs ≡ length (shares_of sheet) = cc (f.rows, f.count, few, length_shares sheet) in
-    let task-list = read_at 8 entry_bytes entry_of bs (s ++ t) (tasks_of card) a (card_at bs) (count_in bs) (λ y. refl) at-card tasks f.card f.count in
-    let share-list = read_at 4 (bytes_of 4) number_of bs t (shares_of sheet) b (sheet_at bs) (rows_in bs * count_in bs) (λ y. refl) at-sheet shares f.sheet count in
+    let task_list = read_at 8 entry_bytes entry_of bs (s ++ t) (tasks_of card) a (card_at bs) (count_in bs) (λ y. refl) at_card tasks f.card f.count in
+    let share_list = read_at 4 (bytes_of 4) number_of bs t (shares_of sheet) b (sheet_at bs) (rows_in bs * count_in bs) (λ y. refl) at_sheet shares f.sheet count in
     record {
       passes =
           passing bs (le-ltb (length bs) 12 (omega arith))
@@ -95,14 +95,14 @@ holds note card sheet short same tasks shares =
           record {
             cores = sym f.cores;
             count = sym few ∙ sym f.count;
-            tasks = sym task-list;
-            back = ap (flat_map entry_bytes) task-list ∙ sym (bytes_at 8 entry_bytes bs (s ++ t) (tasks_of card) a (card_at bs) (count_in bs) (λ y. refl) at-card f.card f.count);
+            tasks = sym task_list;
+            back = ap (flat_map entry_bytes) task_list ∙ sym (bytes_at 8 entry_bytes bs (s ++ t) (tasks_of card) a (card_at bs) (count_in bs) (λ y. refl) at_card f.card f.count);
           };
       shares =
           record {
             rows = sym f.rows;
             count = same ∙ sym few ∙ sym f.count;
-            shares = sym share-list;
-            back = ap (flat_map (bytes_of 4)) share-list ∙ sym (bytes_at 4 (bytes_of 4) bs t (shares_of sheet) b (sheet_at bs) (rows_in bs * count_in bs) (λ y. refl) at-sheet f.sheet count);
+            shares = sym share_list;
+            back = ap (flat_map (bytes_of 4)) share_list ∙ sym (bytes_at 4 (bytes_of 4) bs t (shares_of sheet) b (sheet_at bs) (rows_in bs * count_in bs) (λ y. refl) at_sheet f.sheet count);
           };
     }

@@ -31,8 +31,8 @@ whole bs t m k tasks shares r agrees cores is rows are entries cells =
     let same : t.rows * t.count ≡ rows_in bs * count_in bs = cc (r.rows, r.count) in
     let note : length (note_in bs) ≡ t.card = length-take-le (card_at bs) bs (omega (arith, r.card, r.sheet)) ∙ sym r.card in
     let size : length tasks ≡ t.count = ap length is ∙ length_parts 8 entry_of (count_in bs) (drop (card_at bs) bs) ∙ sym r.count in
-    let from-sheet = cut bs (sheet_at bs) (4 * (rows_in bs * count_in bs)) (length bs - 12) (omega (arith, r.sheet)) in
-    let from-card = cut bs (card_at bs) (8 * count_in bs) (sheet_at bs) (omega (arith, r.sheet, r.card, r.count)) in
+    let from_sheet = cut bs (sheet_at bs) (4 * (rows_in bs * count_in bs)) (length bs - 12) (omega (arith, r.sheet)) in
+    let from_card = cut bs (card_at bs) (8 * count_in bs) (sheet_at bs) (omega (arith, r.sheet, r.card, r.count)) in
     let foot = same_trailer note (omega arith) (cores ∙ sym r.cores) size (rows ∙ sym r.rows) ∙ r.back in
     joint (note_in bs) (ap (flat_map entry_bytes) is ∙ entries) (ap (flat_map (bytes_of 4)) are ∙ cells) foot
-    ∙ ap (λ l. note_in bs ++ (take (8 * count_in bs) (drop (card_at bs) bs) ++ l)) from-sheet ∙ ap (λ l. note_in bs ++ l) from-card ∙ take-append-drop (card_at bs) bs
+    ∙ ap (λ l. note_in bs ++ (take (8 * count_in bs) (drop (card_at bs) bs) ++ l)) from_sheet ∙ ap (λ l. note_in bs ++ l) from_card ∙ take-append-drop (card_at bs) bs
