@@ -1,5 +1,3 @@
 pub mod Orders
-pub mod Tells
 pub mod Numbers
 mod Places
-mod Scans
