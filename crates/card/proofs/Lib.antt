@@ -1,3 +1,4 @@
+pub mod Padding
 pub mod Bounds
 pub mod Windows
 pub mod Faults

@@ -3,12 +3,10 @@ use Rattle.std.specs.Prelude.{◌≡◌, ℕ, ◌+◌, ◌-◌, ◌*◌, ◌%◌
 use Rattle.std.specs.List.{range_with_len}
 use Rattle.card.specs.declared.types.Card.{Card}
 use Rattle.card.specs.declared.types.Task.{Task}
+pub use Rattle.card.specs.Tasks.{nobody}
 
 abbrev pub tasks_of : Card → List Task
 tasks_of card = take card.count card.tasks
-
-abbrev pub nobody : Task
-nobody = record { period = 0; run_time = 0 }
 
 abbrev pub period_of : Card → ℕ → ℕ
 period_of card i = (get_or (tasks_of card) i nobody).period

@@ -1,4 +1,5 @@
 pub mod Limits
+pub mod Tasks
 pub mod Cards
 pub mod Lines
 pub mod Verdicts

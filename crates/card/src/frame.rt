@@ -1,7 +1,7 @@
 // The frame length, and the checks of the tasks that it is made from.
 ghost use Rattle.std.specs.Prelude.{◌≡◌, ◌+◌, ◌≤◌, length, MatchResult};
 ghost use Rattle.refusal.specs.Table.{card_told, numbered};
-ghost use Rattle.card.specs.Verdicts.{fine, gcd_in, lcm, outside, judged_task, judged_tasks, frame_of};
+ghost use Rattle.card.specs.Verdicts.{fine, gcd_in, lcm, judged_task, judged_tasks, frame_of};
 
 use crate::types::Task;
 use refusal::CardFault;
@@ -16,9 +16,7 @@ fn gcd(mut a: u32, mut b: u32) -> u32
     ensures some { 1 ≤ b → 1 ≤ result }
 {
     while b != 0 {
-        let rest = a % b;
-        a = b;
-        b = rest;
+        (a, b) = (b, a % b);
     }
     a
 }
@@ -31,20 +29,14 @@ fn common_multiple(a: u32, b: u32) -> u64
     u64::from(a / gcd(a, b)) * u64::from(b)
 }
 
-fn is_outside(low: u32, high: u32, x: u32) -> bool
-    ensures { result ≡ outside low high x }
-{
-    x < low || x > high
-}
-
 // The common multiple of `multiple` and the period of the task with this number.
 fn check_task(multiple: u32, number: u8, task: Task) -> Result<u32, CardFault>
     ensures { MatchResult result (λ m. (judged_task multiple number task ≡ fine) × (m ≡ lcm multiple task.period)) (λ e. card_told e ≡ numbered (judged_task multiple number task)) }
 {
-    if is_outside(1, MAX_PERIOD, task.period) {
+    if !(1..=MAX_PERIOD).contains(&task.period) {
         return Err(CardFault::Period(number));
     }
-    if is_outside(1, task.period, task.run_time) {
+    if !(1..=task.period).contains(&task.run_time) {
         return Err(CardFault::RunTime(number));
     }
     let next = common_multiple(multiple, task.period);
@@ -60,10 +52,8 @@ pub(crate) fn frame_length(tasks: &[Task]) -> Result<u32, CardFault>
     ensures { MatchResult result (λ h. (judged_tasks 1 1 tasks.now ≡ fine) × (h ≡ frame_of tasks.now)) (λ e. card_told e ≡ numbered (judged_tasks 1 1 tasks.now)) }
 {
     let mut multiple = 1;
-    let mut number = 1;
-    for task in tasks {
-        multiple = check_task(multiple, number, *task)?;
-        number += 1;
+    for (i, task) in tasks.iter().enumerate() {
+        multiple = check_task(multiple, i as u8 + 1, *task)?;
     }
     Ok(multiple)
 }

@@ -1,7 +1,8 @@
 ghost use Rattle.std.specs.Prelude.{◌≡◌, ℕ, ◌≤◌, length, slice_index_or};
+ghost use Rattle.card.specs.Tasks.{nobody};
 
 // A task is released at every multiple of its period, from tick 0 on, and each job needs its run time.
-#[derive(Clone, Copy, PartialEq, Eq, Debug)]
+#[derive(Clone, Copy, PartialEq, Eq, Default, Debug)]
 pub struct Task {
     pub period: u32,
     pub run_time: u32,
@@ -18,8 +19,7 @@ pub struct Card {
     ghost some_tasks: { 1 ≤ count },
     ghost few_tasks: { count ≤ 32 },
     ghost table: { length tasks ≡ 32 },
-    ghost no_period: { (i : ℕ) → count ≤ i → (slice_index_or tasks i (record { period = 0; run_time = 0 })).period ≡ 0 },
-    ghost no_run: { (i : ℕ) → count ≤ i → (slice_index_or tasks i (record { period = 0; run_time = 0 })).run_time ≡ 0 },
+    ghost rest: { (i : ℕ) → count ≤ i → slice_index_or tasks i nobody ≡ nobody },
 }
 
 // The frame length and the boundaries below it, rising: the intervals of a lawful card.
