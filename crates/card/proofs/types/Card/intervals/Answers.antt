@@ -1,4 +1,4 @@
-use Rattle.std.proofs.Common.{◌≡◌, ℕ, ◌<◌, List, length, ap, ◌∙◌, subst, ap₂, arith}
+use Rattle.std.proofs.Common.{◌≡◌, ℕ, ◌<◌, List, length, ap, ◌∙◌, subst, ap₂}
 use Rattle.std.proofs.lemmas.Result.{MatchResult-weaker, err_from_is_err_and}
 use Rattle.refusal.specs.Table.{card_told, numbered}
 use Rattle.card.specs.declared.types.Task.{Task}
@@ -16,10 +16,7 @@ returns-in_err-frame c =
     record { judged = a; lawful = answered_exactly card c.from_residual.result a }
 
 pub intervals_of-requires : goal.intervals_of-requires
-intervals_of-requires c =
-    let ok = c.in_ok-frame.ensures in
-    let s = sound_tasks c.tasks-tasks.result.now ok.0 in
-    (omega (arith, ok.1, s.1), s.0)
+intervals_of-requires c = (sound_tasks c.tasks-tasks.result.now c.in_ok-frame.ensures.0).0
 
 pub returns : goal.returns
 returns c =
