@@ -1,11 +1,17 @@
 ghost use Rattle.std.specs.Prelude.{◌≡◌, ℕ, ◌*◌, ◌≤◌, length, slice_index};
 
+pub(crate) const MAX_ROWS: u16 = 128;
+
+pub(crate) const MAX_TASKS: u8 = 32;
+
+pub(crate) const TABLE: usize = 4096;
+
 // K rows of N shares, interval by interval, within their limits. It need not be accepted.
 #[derive(Clone, Copy)]
 pub struct Sheet {
     pub(crate) rows: u8,
     pub(crate) count: u8,
-    pub(crate) shares: [u32; 4096],
+    pub(crate) shares: [u32; TABLE],
     ghost some_rows: { 1 ≤ rows },
     ghost few_rows: { rows ≤ 128 },
     ghost some_shares: { 1 ≤ count },
