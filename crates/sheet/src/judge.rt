@@ -89,6 +89,7 @@ impl Judgement<'_> {
         Ok(())
     }
 
+    #[tactic(auto, using(crate::proofs::Turns::turns))]
     fn rows(&self) -> Result<(), SheetFault>
         ensures { Tells result (rows_by (start_of self.now.intervals.now) self.now.sheet.now self.now.card.now.cores) }
     {
@@ -100,15 +101,14 @@ impl Judgement<'_> {
     }
 
     // What task i has in interval k, if that begins in a window.
-    fn part(&self, i: u8, window: &Range<u64>, k: u8) -> u64
+    fn part(&self, i: u8, window: &Range<u64>, k: u8) -> u32
         requires there { k < self.now.sheet.now.rows }
         requires task { i < self.now.sheet.now.count }
-        ensures value { result ≡ part_by (start_of self.now.intervals.now) self.now.sheet.now i window.now.start window.now.end k }
-        ensures small { result ≤ 4294967295 }
+        ensures { result ≡ part_by (start_of self.now.intervals.now) self.now.sheet.now i window.now.start window.now.end k }
     {
         let k = usize::from(k);
         if begins_in(self.intervals.start(k), window) {
-            u64::from(self.sheet.share(k, usize::from(i)))
+            self.sheet.share(k, usize::from(i))
         } else {
             0
         }
@@ -120,7 +120,7 @@ impl Judgement<'_> {
         ensures { result ≡ total_by (start_of self.now.intervals.now) self.now.sheet.now i window.now.start window.now.end }
     {
         (0..self.sheet.rows())
-            .map(|k| self.part(i, window, k))
+            .map(|k| u64::from(self.part(i, window, k)))
             .sum()
     }
 
@@ -141,6 +141,7 @@ impl Judgement<'_> {
     }
 
     // The jobs of task i in a frame.
+    #[tactic(auto, using(crate::proofs::Turns::turns))]
     fn jobs(&self, i: u8, task: Task) -> Result<(), SheetFault>
         requires there { i < self.now.sheet.now.count }
         requires period { 1 ≤ task.period }
@@ -152,6 +153,7 @@ impl Judgement<'_> {
         Ok(())
     }
 
+    #[tactic(auto, using(crate::proofs::Turns::turns))]
     fn tasks(&self) -> Result<(), SheetFault>
         ensures { Tells result (tasks_by (start_of self.now.intervals.now) self.now.sheet.now self.now.intervals.now.frame self.now.card.now) }
     {
@@ -170,6 +172,7 @@ fn same_counts(card: &Card, intervals: &Intervals, sheet: &Sheet) -> bool
 }
 
 // The counts, the rows, then the jobs: the first check that fails refuses the sheet.
+#[tactic(auto, using(crate::proofs::Begun::begun))]
 pub(crate) fn judge(card: &Card, intervals: &Intervals, sheet: &Sheet) -> Result<(), SheetFault>
     requires { Times card.now intervals.now }
     ensures { Tells result (judged_sheet card.now intervals.now.frame sheet.now) }

@@ -59,6 +59,7 @@ impl Sheet {
     }
 
     // Where the row of interval k, from 0, stands in the table.
+    #[tactic(auto, using(crate::proofs::Rooms::rooms))]
     fn offset(&self, k: usize) -> usize
         requires { k < self.now.rows }
         ensures at { result ≡ k * self.now.count }
