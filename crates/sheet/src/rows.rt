@@ -46,26 +46,18 @@ impl Sheet {
     }
 
     // The shares of interval k, from 0; none past the last.
+    #[tactic(auto, using(crate::proofs::Rooms::row_room))]
     pub fn row(&self, k: usize) -> &[u32]
         ensures part { result.now ≡ row_at self.now k }
         ensures size { length result.now ≡ shares_at self.now k }
     {
         if k < usize::from(self.rows) {
-            let from = self.offset(k);
-            &self.shares[from..from + usize::from(self.count)]
+            let count = usize::from(self.count);
+            let from = k * count;
+            &self.shares[from..from + count]
         } else {
             &[]
         }
-    }
-
-    // Where the row of interval k, from 0, stands in the table.
-    #[tactic(auto, using(crate::proofs::Rooms::rooms))]
-    fn offset(&self, k: usize) -> usize
-        requires { k < self.now.rows }
-        ensures at { result ≡ k * self.now.count }
-        ensures room { result + self.now.count ≤ 4096 }
-    {
-        k * usize::from(self.count)
     }
 
     // The share of task i in interval k, both from 0.

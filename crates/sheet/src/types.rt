@@ -7,6 +7,7 @@ pub(crate) const MAX_TASKS: u8 = 32;
 pub(crate) const TABLE: usize = 4096;
 
 // K rows of N shares, interval by interval, within their limits. It need not be accepted.
+// Kept: a table of a fixed size with its counts, so that a sheet is Copy and nothing of it is allocated.
 #[derive(Clone, Copy)]
 pub struct Sheet {
     pub(crate) rows: u8,
@@ -16,6 +17,7 @@ pub struct Sheet {
     ghost few_rows: { rows ≤ 128 },
     ghost some_shares: { 1 ≤ count },
     ghost few_shares: { count ≤ 32 },
+    // Kept: a lemma over a sheet knows the length of its table by this alone.
     ghost table: { length shares ≡ 4096 },
     ghost rest: { (i : ℕ) → rows * count ≤ i → slice_index shares i ≡ 0 },
 }
