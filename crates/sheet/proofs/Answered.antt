@@ -1,5 +1,5 @@
 -- From the judgement that an answer tells to what the answer agrees with.
-use Rattle.std.proofs.Common.{◌≡◌, ℕ, true, false, is_ok, Ok, Err, Result, refl, ap, ◌∙◌, arith, MatchResult}
+use Rattle.std.proofs.Common.{◌≡◌, true, is_ok, Ok, Err, Result, refl, ap, ◌∙◌, arith}
 use Rattle.refusal.specs.declared.FileFault.{FileFault}
 use Rattle.refusal.specs.declared.FileFault.TheVariants.{Stub, Counts, Layout, NoSpace}
 use Rattle.refusal.specs.declared.CardFault.{CardFault}
@@ -7,14 +7,13 @@ use Rattle.refusal.specs.declared.CardFault.TheVariants.{File, Period, RunTime, 
 use Rattle.refusal.specs.declared.Refusal.{Refusal}
 use Rattle.refusal.specs.declared.SheetFault.{SheetFault}
 use Rattle.refusal.specs.declared.SheetFault.TheVariants.{Card, Rows, WideShare, Overfull, WrongTotal}
-use Rattle.refusal.specs.Table.{file_told, card_told, sheet_told, numbered}
+use Rattle.refusal.specs.Table.{file_told, card_told, sheet_told}
 use Rattle.card.specs.declared.types.Card as Types
-use Rattle.card.specs.Cards.{Frame}
-use Rattle.card.specs.Lawful.{Lawful, Exactly}
 use Rattle.card.specs.Verdicts.{Judged, fine}
+use Rattle.card.proofs.CardsJudged.{lawful_exactly}
 use Rattle.sheet.specs.declared.types.Sheet.{Sheet}
-use Rattle.sheet.specs.Timetables.{Agrees}
-use Rattle.sheet.specs.Verdicts.{judged, Meets}
+use Rattle.sheet.specs.Tellings.{Answered, Tells}
+use Rattle.sheet.specs.Verdicts.{judged}
 use Rattle.sheet.proofs.Agreement.{agrees, equations}
 
 -- no refusal has the number 0
@@ -38,22 +37,19 @@ sheet_bad (WideShare interval task) z = omega arith
 sheet_bad (Overfull interval) z = omega arith
 sheet_bad (WrongTotal task job) z = omega arith
 
--- an answer that is Ok where j is fine, and else tells j's number and place
-pub ok_fine_to : {A : Type 0} (r : Result A SheetFault) (j : Judged) → MatchResult r (λ _. j ≡ fine) (λ e. sheet_told e ≡ numbered j) → is_ok r ≡ true → j ≡ fine
+-- an answer that tells j is Ok exactly where j is fine
+ok_fine_to : {A : Type 0} (r : Result A SheetFault) (j : Judged) → Tells r j → is_ok r ≡ true → j ≡ fine
 ok_fine_to (Ok a) j c e = c
-ok_fine_to (Err f) j c e = absurd (never e)
-  where
-    never : false ≡ true → ⊥
-    never e = let z : ◌≡◌ {A = ℕ} 0 1 = cc in omega arith
+ok_fine_to (Err f) j c e = cc
 
-pub ok_fine_from : {A : Type 0} (r : Result A SheetFault) (j : Judged) → MatchResult r (λ _. j ≡ fine) (λ e. sheet_told e ≡ numbered j) → j ≡ fine → is_ok r ≡ true
+ok_fine_from : {A : Type 0} (r : Result A SheetFault) (j : Judged) → Tells r j → j ≡ fine → is_ok r ≡ true
 ok_fine_from (Ok a) j c e = refl
 ok_fine_from (Err f) j c e = absurd (sheet_bad f (ap (λ (k : Refusal). k.number) c ∙ ap (λ (k : Judged). k.0) e))
 
 -- an answer that tells the judgement agrees with the timetables and with the equations
-module _ {A : Type 0} (card : Types.Card) (sheet : Sheet) (r : Result A SheetFault) (c : MatchResult r (λ _. judged card sheet ≡ fine) (λ e. sheet_told e ≡ numbered (judged card sheet))) (l : Lawful card) where
-  pub answer_agrees : Agrees card sheet (is_ok r)
-  answer_agrees = agrees card sheet (is_ok r) (ok_fine_to r (judged card sheet) c) (ok_fine_from r (judged card sheet) c) l
-
-  pub answer_equations : (h : ℕ) → Frame card h → Exactly (Meets card h sheet) (is_ok r)
-  answer_equations = equations card sheet (is_ok r) (ok_fine_to r (judged card sheet) c) (ok_fine_from r (judged card sheet) c) l
+pub answered : {A : Type 0} (card : Types.Card) (sheet : Sheet) (r : Result A SheetFault) → Tells r (judged card sheet) → Answered card sheet (is_ok r)
+answered card sheet r c = record {
+  agrees = λ l. agrees card sheet (is_ok r) (ok_fine_to r (judged card sheet) c) (ok_fine_from r (judged card sheet) c) l;
+  equations = λ l. equations card sheet (is_ok r) (ok_fine_to r (judged card sheet) c) (ok_fine_from r (judged card sheet) c) l;
+  lawful = lawful_exactly card;
+}

@@ -29,12 +29,12 @@ module _ (card : Card) (v : Intervals) (t : Times card v) where
   intervals : v.count ≡ length (boundaries card v.frame)
   intervals = sym (length-take-le v.count v.starts (omega (arith, v.few, v.table))) ∙ ap length t.starts
 
-  begun : (sheet : Sheet) → judged_sheet card v.frame sheet ≡ sheet_by (start_of v) v.count v.frame card sheet
-  begun sheet = ap (λ (b : ℕ → ℕ). sheet_by b (length (boundaries card v.frame)) v.frame card sheet) (sym starts) ∙ ap (λ (n : ℕ). sheet_by (start_of v) n v.frame card sheet) (sym intervals)
+  by_starts : (sheet : Sheet) → judged_sheet card v.frame sheet ≡ sheet_by (start_of v) v.count v.frame card sheet
+  by_starts sheet = ap (λ (b : ℕ → ℕ). sheet_by b (length (boundaries card v.frame)) v.frame card sheet) (sym starts) ∙ ap (λ (n : ℕ). sheet_by (start_of v) n v.frame card sheet) (sym intervals)
 
   -- a sheet with other counts than the card
   pub misfit_told : (sheet : Sheet) → false ≡ (eqb sheet.rows v.count && eqb sheet.count card.count) → sheet_told Rows ≡ numbered (judged_sheet card v.frame sheet)
-  misfit_told sheet other = ap numbered (sym (begun sheet ∙ cond-false _ _ _ (sym other)))
+  misfit_told sheet other = ap numbered (sym (by_starts sheet ∙ cond-false _ _ _ (sym other)))
 
   pub periods : (i : ℕ) → i < card.count → 1 ≤ period_of card i
   periods = period_some card v.frame t.frame
@@ -51,10 +51,12 @@ module _ (card : Card) (v : Intervals) (t : Times card v) where
     tasks = eqb-true sheet.count card.count (and_parts _ _ (sym same)).1
 
     whole : judged_sheet card v.frame sheet ≡ or_else (rows_by (start_of v) sheet card.cores) (tasks_by (start_of v) sheet v.frame card)
-    whole = begun sheet ∙ cond-true _ _ _ (sym same)
+    whole = by_starts sheet ∙ cond-true _ _ _ (sym same)
 
     pub rows_told : (e : SheetFault) → sheet_told e ≡ numbered (rows_by (start_of v) sheet card.cores) → sheet_told e ≡ numbered (judged_sheet card v.frame sheet)
     rows_told e told = told ∙ ap numbered (sym (whole ∙ cond-false _ _ _ (ne_eqb _ 0 (λ z. sheet_bad e (ap (λ (r : Refusal). r.number) told ∙ z)))))
 
     pub tasks_tell : {A : Type 0} (r : Result A SheetFault) → rows_by (start_of v) sheet card.cores ≡ fine → Tells r (tasks_by (start_of v) sheet v.frame card) → Tells r (judged_sheet card v.frame sheet)
     tasks_tell r e tells = subst (λ (j : Judged). Tells r j) (sym (whole ∙ cond-true _ _ _ (eq-eqb _ 0 (ap (λ (j : Judged). j.0) e)))) tells
+
+pub ruleset begun = (misfit_told, periods, rising, tasks)

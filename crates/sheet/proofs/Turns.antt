@@ -28,3 +28,5 @@ module _ {f : ℕ → Judged} {n i : ℕ} (left : Left f n i) where
 
   pub left_all : n ≤ i → each f (range_with_len 0 n) ≡ fine
   left_all l = sym left.same ∙ at_drop_all (each f) (range_with_len 0 n) i (omega (arith, length-range_with_len 0 n))
+
+pub ruleset turns = (left_more, left_told, left_all)

@@ -4,11 +4,12 @@ ghost use Rattle.card.specs.Times.{Times, start_of};
 ghost use Rattle.card.specs.Verdicts.{fine};
 ghost use Rattle.refusal.specs.Table.{numbered, sheet_told};
 ghost use Rattle.sheet.specs.Tellings.{Tells};
-ghost use Rattle.sheet.specs.Verdicts.{interval_by, job_by, jobs_by, part_by, row_by, rows_by, task_by, tasks_by, total_by, judged_shares, judged_sheet};
+ghost use Rattle.sheet.specs.Verdicts.{interval_by, job_by, jobs_by, part_by, rows_by, tasks_by, total_by, judged_shares, judged_sheet};
 
 use crate::types::Sheet;
 use card::{Card, Intervals, Task};
 use refusal::SheetFault;
+use std::ops::Range;
 
 // A share is longer than its interval.
 fn too_wide(share: u32, len: u32) -> bool
@@ -31,6 +32,13 @@ fn is_whole(total: u64, run_time: u32) -> bool
     total == u64::from(run_time)
 }
 
+// An interval begins in a window.
+fn begins_in(start: u32, window: &Range<u64>) -> bool
+    ensures { result ≡ (nat_le window.now.start start && nat_lt start window.now.end) }
+{
+    window.contains(&u64::from(start))
+}
+
 // What the shares of an interval come to, each compared before it is added.
 fn row_total(interval: u8, len: u32, shares: &[u32]) -> Result<u64, SheetFault>
     requires { length shares.now ≤ 32 }
@@ -46,152 +54,125 @@ fn row_total(interval: u8, len: u32, shares: &[u32]) -> Result<u64, SheetFault>
     Ok(total)
 }
 
-// The row of an interval, from 1.
-fn judge_row(cores: u8, interval: u8, len: u32, shares: &[u32]) -> Result<(), SheetFault>
-    requires { length shares.now ≤ 32 }
-    ensures { Tells result (row_by cores interval len shares.now) }
-{
-    let total = row_total(interval, len, shares)?;
-    if overfull(total, cores, len) {
-        return Err(SheetFault::Overfull(interval));
+// A sheet with a row for each interval of a card and a share for each of its tasks.
+#[derive(Clone, Copy)]
+struct Judgement<'a> {
+    card: &'a Card,
+    intervals: &'a Intervals,
+    sheet: &'a Sheet,
+    ghost tasks: { sheet.now.count ≡ card.now.count },
+    ghost periods: { (i : ℕ) → i < card.now.count → 1 ≤ period_of card.now i },
+    ghost rising: { (k : ℕ) → k < sheet.now.rows → start_of intervals.now k ≤ start_of intervals.now (k + 1) },
+}
+
+// Intervals, tasks and jobs count from 0.
+impl Judgement<'_> {
+    // How long interval k is.
+    fn span(&self, k: u8) -> u32
+        requires { k < self.now.sheet.now.rows }
+        ensures { result ≡ start_of self.now.intervals.now (k + 1) - start_of self.now.intervals.now k }
+    {
+        let k = usize::from(k);
+        self.intervals.start(k + 1) - self.intervals.start(k)
     }
-    Ok(())
-}
 
-// The length of interval k, from 0.
-fn length_of(intervals: &Intervals, k: u8) -> u32
-    requires { start_of intervals.now k ≤ start_of intervals.now (k + 1) }
-    ensures { result ≡ start_of intervals.now (k + 1) - start_of intervals.now k }
-{
-    let k = usize::from(k);
-    intervals.start(k + 1) - intervals.start(k)
-}
-
-// The row of interval k, from 0.
-fn judge_interval(
-    card: &Card,
-    intervals: &Intervals,
-    sheet: &Sheet,
-    k: u8,
-) -> Result<(), SheetFault>
-    requires there { k < sheet.now.rows }
-    requires rising { start_of intervals.now k ≤ start_of intervals.now (k + 1) }
-    ensures { Tells result (interval_by (start_of intervals.now) sheet.now card.now.cores k) }
-{
-    let len = length_of(intervals, k);
-    judge_row(card.cores(), k + 1, len, sheet.row(usize::from(k)))
-}
-
-// The rows of all intervals.
-fn judge_rows(card: &Card, intervals: &Intervals, sheet: &Sheet) -> Result<(), SheetFault>
-    requires { (k : ℕ) → k < sheet.now.rows → start_of intervals.now k ≤ start_of intervals.now (k + 1) }
-    ensures { Tells result (rows_by (start_of intervals.now) sheet.now card.now.cores) }
-{
-    for k in 0..sheet.rows {
-        judge_interval(card, intervals, sheet, k)?;
-    }
-    Ok(())
-}
-
-// A share, where its interval begins in a window.
-fn counted(share: u32, start: u32, from: u64, to: u64) -> u64
-    ensures value { result ≡ (if nat_le from start && nat_lt start to then share else 0) }
-    ensures small { result ≤ share }
-{
-    let start = u64::from(start);
-    if from <= start && start < to {
-        u64::from(share)
-    } else {
-        0
-    }
-}
-
-// What task i has in interval k, both from 0, if that begins in a window.
-fn part_of(intervals: &Intervals, sheet: &Sheet, i: u8, from: u64, to: u64, k: u8) -> u64
-    requires there { k < sheet.now.rows }
-    requires task { i < sheet.now.count }
-    ensures value { result ≡ part_by (start_of intervals.now) sheet.now i from to k }
-    ensures small { result ≤ 4294967295 }
-{
-    let start = intervals.start(usize::from(k));
-    counted(sheet.share(usize::from(k), usize::from(i)), start, from, to)
-}
-
-// What task i has in all intervals that begin in a window.
-fn total_of(intervals: &Intervals, sheet: &Sheet, i: u8, from: u64, to: u64) -> u64
-    requires { i < sheet.now.count }
-    ensures { result ≡ total_by (start_of intervals.now) sheet.now i from to }
-{
-    let mut total = 0;
-    for k in 0..sheet.rows {
-        total += part_of(intervals, sheet, i, from, to, k);
-    }
-    total
-}
-
-// A job of task i, both from 0.
-fn judge_job(
-    intervals: &Intervals,
-    sheet: &Sheet,
-    i: u8,
-    task: Task,
-    job: u32,
-) -> Result<(), SheetFault>
-    requires there { i < sheet.now.count }
-    requires few { job < 4294967295 }
-    ensures { Tells result (job_by (start_of intervals.now) sheet.now i task job) }
-{
-    let period = u64::from(task.period);
-    let opens = u64::from(job) * period;
-    let total = total_of(intervals, sheet, i, opens, opens + period);
-    if is_whole(total, task.run_time) {
+    // The row of interval k.
+    fn row(&self, k: u8) -> Result<(), SheetFault>
+        requires { k < self.now.sheet.now.rows }
+        ensures { Tells result (interval_by (start_of self.now.intervals.now) self.now.sheet.now self.now.card.now.cores k) }
+    {
+        let len = self.span(k);
+        let total = row_total(k + 1, len, self.sheet.row(usize::from(k)))?;
+        if overfull(total, self.card.cores(), len) {
+            return Err(SheetFault::Overfull(k + 1));
+        }
         Ok(())
-    } else {
-        Err(SheetFault::WrongTotal(i + 1, job + 1))
     }
-}
 
-// The jobs of task i, from 0, in a frame.
-fn judge_jobs(intervals: &Intervals, sheet: &Sheet, i: u8, task: Task) -> Result<(), SheetFault>
-    requires there { i < sheet.now.count }
-    requires period { 1 ≤ task.period }
-    ensures { Tells result (jobs_by (start_of intervals.now) sheet.now intervals.now.frame i task) }
-{
-    for job in 0..intervals.frame() / task.period {
-        judge_job(intervals, sheet, i, task, job)?;
+    #[tactic(auto, using(crate::proofs::Turns::turns))]
+    fn rows(&self) -> Result<(), SheetFault>
+        ensures { Tells result (rows_by (start_of self.now.intervals.now) self.now.sheet.now self.now.card.now.cores) }
+    {
+        // Kept: a refusal tells the interval's number, which gives its length and its row too.
+        for k in 0..self.sheet.rows() {
+            self.row(k)?;
+        }
+        Ok(())
     }
-    Ok(())
-}
 
-// Task i of the card, from 0.
-fn judge_task(card: &Card, intervals: &Intervals, sheet: &Sheet, i: u8) -> Result<(), SheetFault>
-    requires there { i < sheet.now.count }
-    requires period { 1 ≤ period_of card.now i }
-    ensures { Tells result (task_by (start_of intervals.now) sheet.now intervals.now.frame card.now i) }
-{
-    judge_jobs(intervals, sheet, i, card.task(usize::from(i)))
-}
-
-// All tasks of the card.
-fn judge_tasks(card: &Card, intervals: &Intervals, sheet: &Sheet) -> Result<(), SheetFault>
-    requires same { sheet.now.count ≡ card.now.count }
-    requires periods { (i : ℕ) → i < card.now.count → 1 ≤ period_of card.now i }
-    ensures { Tells result (tasks_by (start_of intervals.now) sheet.now intervals.now.frame card.now) }
-{
-    for i in 0..card.task_count() {
-        judge_task(card, intervals, sheet, i)?;
+    // What task i has in interval k, if that begins in a window.
+    fn part(&self, i: u8, window: &Range<u64>, k: u8) -> u32
+        requires there { k < self.now.sheet.now.rows }
+        requires task { i < self.now.sheet.now.count }
+        ensures { result ≡ part_by (start_of self.now.intervals.now) self.now.sheet.now i window.now.start window.now.end k }
+    {
+        let k = usize::from(k);
+        if begins_in(self.intervals.start(k), window) {
+            self.sheet.share(k, usize::from(i))
+        } else {
+            0
+        }
     }
-    Ok(())
+
+    // What task i has in all intervals that begin in a window.
+    fn total(&self, i: u8, window: &Range<u64>) -> u64
+        requires { i < self.now.sheet.now.count }
+        ensures { result ≡ total_by (start_of self.now.intervals.now) self.now.sheet.now i window.now.start window.now.end }
+    {
+        (0..self.sheet.rows())
+            .map(|k| u64::from(self.part(i, window, k)))
+            .sum()
+    }
+
+    // A job of task i.
+    fn job(&self, i: u8, task: Task, job: u32) -> Result<(), SheetFault>
+        requires there { i < self.now.sheet.now.count }
+        requires few { job < 4294967295 }
+        ensures { Tells result (job_by (start_of self.now.intervals.now) self.now.sheet.now i task job) }
+    {
+        let period = u64::from(task.period);
+        let opens = u64::from(job) * period;
+        let total = self.total(i, &(opens..opens + period));
+        if is_whole(total, task.run_time) {
+            Ok(())
+        } else {
+            Err(SheetFault::WrongTotal(i + 1, job + 1))
+        }
+    }
+
+    // The jobs of task i in a frame.
+    #[tactic(auto, using(crate::proofs::Turns::turns))]
+    fn jobs(&self, i: u8, task: Task) -> Result<(), SheetFault>
+        requires there { i < self.now.sheet.now.count }
+        requires period { 1 ≤ task.period }
+        ensures { Tells result (jobs_by (start_of self.now.intervals.now) self.now.sheet.now self.now.intervals.now.frame i task) }
+    {
+        for job in 0..self.intervals.frame() / task.period {
+            self.job(i, task, job)?;
+        }
+        Ok(())
+    }
+
+    #[tactic(auto, using(crate::proofs::Turns::turns))]
+    fn tasks(&self) -> Result<(), SheetFault>
+        ensures { Tells result (tasks_by (start_of self.now.intervals.now) self.now.sheet.now self.now.intervals.now.frame self.now.card.now) }
+    {
+        for (i, task) in self.card.tasks().iter().enumerate() {
+            self.jobs(i as u8, *task)?;
+        }
+        Ok(())
+    }
 }
 
 // The sheet has a row for each interval, and a share for each task.
 fn same_counts(card: &Card, intervals: &Intervals, sheet: &Sheet) -> bool
     ensures { result ≡ (sheet.now.rows == intervals.now.count && sheet.now.count == card.now.count) }
 {
-    sheet.rows == intervals.count() && sheet.count == card.task_count()
+    sheet.rows() == intervals.count() && sheet.count() == card.task_count()
 }
 
 // The counts, the rows, then the jobs: the first check that fails refuses the sheet.
+#[tactic(auto, using(crate::proofs::Begun::begun))]
 pub(crate) fn judge(card: &Card, intervals: &Intervals, sheet: &Sheet) -> Result<(), SheetFault>
     requires { Times card.now intervals.now }
     ensures { Tells result (judged_sheet card.now intervals.now.frame sheet.now) }
@@ -199,6 +180,11 @@ pub(crate) fn judge(card: &Card, intervals: &Intervals, sheet: &Sheet) -> Result
     if !same_counts(card, intervals, sheet) {
         return Err(SheetFault::Rows);
     }
-    judge_rows(card, intervals, sheet)?;
-    judge_tasks(card, intervals, sheet)
+    let judgement = Judgement {
+        card,
+        intervals,
+        sheet,
+    };
+    judgement.rows()?;
+    judgement.tasks()
 }

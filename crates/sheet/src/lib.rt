@@ -5,7 +5,7 @@ mod accept;
 mod judge;
 mod placement;
 mod questions;
-mod table;
+mod rows;
 mod types;
 
 pub use placement::Placement;

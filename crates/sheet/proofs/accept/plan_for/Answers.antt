@@ -1,10 +1,9 @@
 use Rattle.std.proofs.Common.{Ok, Result, refl}
 use Rattle.std.proofs.lemmas.Result.{err_from_is_err_and}
 use Rattle.refusal.specs.declared.SheetFault.{SheetFault}
-use Rattle.card.proofs.CardsJudged.{lawful_exactly}
 use Rattle.sheet.specs.Tellings.{Tells}
 use Rattle.sheet.specs.Verdicts.{judged}
-use Rattle.sheet.proofs.Answered.{answer_agrees, answer_equations}
+use Rattle.sheet.proofs.Answered.{answered}
 use Rattle.sheet.proofs.Ordered.{sheet_fine, sheet_told_lem}
 use Rattle.sheet.proofs.accept.plan_for.Goals as goal
 
@@ -17,12 +16,7 @@ returns-in_err-judge c =
     let found = c.in_ok-intervals.ensures.judged in
     let told = sheet_told_lem card sheet _ found.0 found.1 c.in_err-judge.field-0.0 c.in_err-judge.ensures in
     let tells : Tells r (judged card sheet) = rw (p.1, p.2) told in
-    record {
-      agrees = answer_agrees card sheet r tells;
-      equations = answer_equations card sheet r tells;
-      lawful = lawful_exactly card;
-      judged = rw (p.1, p.2) told;
-    }
+    record { answered = answered card sheet r tells; judged = rw (p.1, p.2) told }
 
 pub returns : goal.returns
 returns c =
@@ -31,9 +25,4 @@ returns c =
     let found = c.in_ok-intervals.ensures.judged in
     let good = sheet_fine card sheet _ found.0 found.1 c.in_ok-judge.ensures in
     let r : Result (Unit {0}) SheetFault = Ok tt in
-    record {
-      agrees = answer_agrees card sheet r good;
-      equations = answer_equations card sheet r good;
-      lawful = lawful_exactly card;
-      judged = (refl, good);
-    }
+    record { answered = answered card sheet r good; judged = (refl, good) }

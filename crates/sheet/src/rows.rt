@@ -1,39 +1,22 @@
-ghost use Rattle.std.specs.Prelude.{◌≡◌, ℕ, ◌+◌, ◌*◌, ◌<◌, ◌≤◌, length, take, is_ok, MatchResult, slice_index};
+ghost use Rattle.std.specs.Prelude.{◌≡◌, ◌+◌, ◌*◌, ◌<◌, ◌≤◌, length, take, is_ok, MatchResult};
 ghost use Rattle.refusal.specs.declared.Layer.TheVariants.{File};
 ghost use Rattle.refusal.specs.Table.{file_told, refusal};
 ghost use Rattle.sheet.specs.Sheets.{limited, row_at, share, shares_at};
 
-use crate::types::Sheet;
+use crate::types::{MAX_ROWS, MAX_TASKS, Sheet, TABLE};
 use refusal::FileFault;
-
-const MAX_ROWS: u16 = 128;
-
-const MAX_TASKS: u8 = 32;
-
-const TABLE: usize = 4096;
+use table::padded;
 
 // The counts of a sheet are within their limits.
 fn within_limits(rows: u16, count: u8) -> bool
     ensures { result ≡ limited rows count }
 {
-    1 <= rows && rows <= MAX_ROWS && 1 <= count && count <= MAX_TASKS
-}
-
-// The first shares of a table, and 0 behind.
-fn front(table: &[u32; TABLE], used: usize) -> [u32; TABLE]
-    requires { used ≤ 4096 }
-    ensures front { take used result ≡ take used table.now }
-    ensures rest { (i : ℕ) → used ≤ i → slice_index result i ≡ 0 }
-    ensures size { length result ≡ 4096 }
-{
-    let mut shares = [0; TABLE];
-    shares[0..used].copy_from_slice(&table[0..used]);
-    shares
+    (1..=MAX_ROWS).contains(&rows) && (1..=MAX_TASKS).contains(&count)
 }
 
 impl Sheet {
     // The first rows * count shares of the table, interval by interval.
-    pub fn new(rows: u16, count: u8, shares: &[u32; 4096]) -> Result<Sheet, FileFault>
+    pub fn new(rows: u16, count: u8, shares: &[u32; TABLE]) -> Result<Sheet, FileFault>
         ensures made { MatchResult result (λ s. (s.rows ≡ rows) × (s.count ≡ count) × (take (rows * count) s.shares ≡ take (rows * count) shares.now)) (λ e. file_told e ≡ refusal File 2 0 0) }
         ensures when { is_ok result ≡ limited rows count }
     {
@@ -44,7 +27,7 @@ impl Sheet {
         Ok(Sheet {
             rows: rows as u8,
             count,
-            shares: front(shares, used),
+            shares: padded(&shares[..used], 0),
         })
     }
 
@@ -63,25 +46,18 @@ impl Sheet {
     }
 
     // The shares of interval k, from 0; none past the last.
+    #[tactic(auto, using(crate::proofs::Rooms::row_room))]
     pub fn row(&self, k: usize) -> &[u32]
         ensures part { result.now ≡ row_at self.now k }
         ensures size { length result.now ≡ shares_at self.now k }
     {
         if k < usize::from(self.rows) {
-            let from = self.offset(k);
-            &self.shares[from..from + usize::from(self.count)]
+            let count = usize::from(self.count);
+            let from = k * count;
+            &self.shares[from..from + count]
         } else {
             &[]
         }
-    }
-
-    // Where the row of interval k, from 0, stands in the table.
-    fn offset(&self, k: usize) -> usize
-        requires { k < self.now.rows }
-        ensures at { result ≡ k * self.now.count }
-        ensures room { result + self.now.count ≤ 4096 }
-    {
-        k * usize::from(self.count)
     }
 
     // The share of task i in interval k, both from 0.
@@ -90,6 +66,6 @@ impl Sheet {
         requires task { i < self.now.count }
         ensures { result ≡ share self.now k i }
     {
-        self.shares[self.offset(k) + i]
+        self.row(k)[i]
     }
 }
