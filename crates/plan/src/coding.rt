@@ -56,7 +56,7 @@ impl Coded for u32 {
     }
 
     fn put(self, at: usize, out: &mut [u8]) {
-        put(&self.to_be_bytes(), at, out);
+        put(&u32::to_be_bytes(self), at, out);
     }
 }
 
@@ -79,7 +79,7 @@ impl Coded for u16 {
     }
 
     fn put(self, at: usize, out: &mut [u8]) {
-        put(&self.to_be_bytes(), at, out);
+        put(&u16::to_be_bytes(self), at, out);
     }
 }
 

@@ -67,7 +67,11 @@ impl<'a> Reader<'a> {
         ensures answers { IsTrue (is_ok result) }
     {
         let t = self.trailer;
-        let tasks = read_all(&self.bytes[t.card as usize..], usize::from(t.count), NO_TASK);
+        let tasks = read_all(
+            &self.bytes[t.card as usize..],
+            usize::from(t.count),
+            NO_TASK,
+        );
         Card::new(t.cores, t.count, &tasks)
     }
 

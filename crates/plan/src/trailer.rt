@@ -6,7 +6,7 @@ ghost use Rattle.plan.specs.Trailers.{Agrees, Read};
 ghost use Rattle.refusal.specs.declared.FileFault.TheVariants.{Stub};
 ghost use Rattle.refusal.specs.Table.{file_told, numbered};
 
-use crate::coding::Coded;
+use crate::coding::{Coded, put};
 use card::Task;
 use refusal::FileFault;
 
@@ -57,13 +57,15 @@ impl Trailer {
     }
 
     // The twelve bytes of the trailer.
-    pub(crate) fn bytes(self) -> [u8; 12]
+    pub(crate) fn bytes(self) -> [u8; TRAILER]
         ensures { result ≡ trailer_bytes self.card self.sheet self.cores self.count self.rows }
     {
-        let [c0, c1, c2, c3] = self.card.to_be_bytes();
-        let [s0, s1, s2, s3] = self.sheet.to_be_bytes();
-        let [k0, k1] = self.rows.to_be_bytes();
-        [c0, c1, c2, c3, s0, s1, s2, s3, self.cores, self.count, k0, k1]
+        let mut bytes = [0; TRAILER];
+        self.card.put(0, &mut bytes);
+        self.sheet.put(4, &mut bytes);
+        put(&[self.cores, self.count], 8, &mut bytes);
+        self.rows.put(10, &mut bytes);
+        bytes
     }
 
     // M, N and K are within their limits.

@@ -1,4 +1,4 @@
-use Rattle.std.proofs.Common.{ℕ, ◌+◌, List, refl, ap, ◌∙◌, arith}
+use Rattle.std.proofs.Common.{◌+◌, refl, ap, ◌∙◌, arith}
 use Rattle.plan.specs.File.{bytes_of}
 use Rattle.plan.specs.Plans.{written}
 use Rattle.plan.proofs.Written.{written_both}
