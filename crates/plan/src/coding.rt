@@ -1,6 +1,7 @@
 // Numbers and task entries as bytes.
-ghost use Rattle.std.specs.Prelude.{◌≡◌, ℕ, ◌≤◌, [], ◌∷◌, length, take};
+ghost use Rattle.std.specs.Prelude.{◌≡◌, ℕ, ◌+◌, ◌≤◌, List, length, take, refl};
 ghost use Rattle.plan.specs.File.{bytes_of, entry_bytes, entry_of, number_of};
+ghost use Rattle.plan.specs.Plans.{written};
 
 use card::Task;
 
@@ -10,70 +11,109 @@ pub(crate) const NO_TASK: Task = Task {
     run_time: 0,
 };
 
-// The number that four bytes make.
-pub(crate) fn number(a: u8, b: u8, c: u8, d: u8) -> u32
-    ensures is { result ≡ number_of (a ∷ b ∷ c ∷ d ∷ []) }
-    ensures back { bytes_of 4 result ≡ a ∷ b ∷ c ∷ d ∷ [] }
-{
-    u32::from_be_bytes([a, b, c, d])
+// A value that has a fixed number of bytes in a file.
+pub(crate) trait Coded: Copy {
+    const WIDTH: usize;
+
+    ghost WIDTH: { ℕ };
+
+    // The bytes of a value, and the value of bytes.
+    ghost code: { Self → List ℕ };
+
+    ghost decode: { List ℕ → Self };
+
+    // The value at the front.
+    fn first(bytes: &[u8]) -> Self
+        requires { WIDTH ≤ length bytes.now }
+        ensures is { result ≡ decode (take WIDTH bytes.now) }
+        ensures back { code result ≡ take WIDTH bytes.now };
+
+    // Writes the bytes at a place.
+    fn put(self, at: usize, out: &mut [u8])
+        requires { at + WIDTH ≤ length out.old }
+        ensures is { out.new ≡ written out.old at (code self) }
+        ensures back { decode (code self) ≡ self };
+
+    ghost wide: { (x : Self) → length (code x) ≡ WIDTH };
 }
 
-// The number that two bytes make.
-pub(crate) fn short_number(a: u8, b: u8) -> u16
-    ensures is { result ≡ number_of (a ∷ b ∷ []) }
-    ensures back { bytes_of 2 result ≡ a ∷ b ∷ [] }
-{
-    u16::from_be_bytes([a, b])
-}
+impl Coded for u32 {
+    const WIDTH: usize = 4;
 
-// The four bytes of a number.
-pub(crate) fn bytes_of(x: u32) -> [u8; 4]
-    ensures is { result ≡ bytes_of 4 x }
-    ensures back { number_of (bytes_of 4 x) ≡ x }
-{
-    x.to_be_bytes()
-}
+    ghost WIDTH = { 4 };
 
-// The two bytes of a number.
-pub(crate) fn short_bytes_of(n: u16) -> [u8; 2]
-    ensures { result ≡ bytes_of 2 n }
-{
-    n.to_be_bytes()
-}
+    ghost code = { bytes_of 4 };
 
-// The eight bytes of a task entry.
-pub(crate) fn entry_bytes(task: Task) -> [u8; 8]
-    ensures is { result ≡ entry_bytes task }
-    ensures back { entry_of (entry_bytes task) ≡ task }
-{
-    let [a, b, c, d] = bytes_of(task.period);
-    let [e, f, g, h] = bytes_of(task.run_time);
-    [a, b, c, d, e, f, g, h]
-}
+    ghost decode = { number_of };
 
-// The number at the front.
-pub(crate) fn first_number(bytes: &[u8]) -> u32
-    requires { 4 ≤ length bytes.now }
-    ensures is { result ≡ number_of (take 4 bytes.now) }
-    ensures back { bytes_of 4 result ≡ take 4 bytes.now }
-{
-    match bytes {
-        [a, b, c, d, ..] => number(*a, *b, *c, *d),
-        _ => 0,
+    ghost wide = { λ x. refl };
+
+    fn first(bytes: &[u8]) -> u32 {
+        match bytes {
+            [a, b, c, d, ..] => u32::from_be_bytes([*a, *b, *c, *d]),
+            _ => unreachable!(),
+        }
+    }
+
+    fn put(self, at: usize, out: &mut [u8]) {
+        put(&u32::to_be_bytes(self), at, out);
     }
 }
 
-// The task entry at the front.
-pub(crate) fn first_entry(bytes: &[u8]) -> Task
-    requires { 8 ≤ length bytes.now }
-    ensures is { result ≡ entry_of (take 8 bytes.now) }
-    ensures back { entry_bytes result ≡ take 8 bytes.now }
-{
-    match bytes {
-        [a, b, c, d, e, f, g, h, ..] => Task {
-            period: number(*a, *b, *c, *d),
-            run_time: number(*e, *f, *g, *h),
-        },
-        _ => NO_TASK,
+impl Coded for u16 {
+    const WIDTH: usize = 2;
+
+    ghost WIDTH = { 2 };
+
+    ghost code = { bytes_of 2 };
+
+    ghost decode = { number_of };
+
+    ghost wide = { λ x. refl };
+
+    fn first(bytes: &[u8]) -> u16 {
+        match bytes {
+            [a, b, ..] => u16::from_be_bytes([*a, *b]),
+            _ => unreachable!(),
+        }
     }
+
+    fn put(self, at: usize, out: &mut [u8]) {
+        put(&u16::to_be_bytes(self), at, out);
+    }
+}
+
+impl Coded for Task {
+    const WIDTH: usize = 8;
+
+    ghost WIDTH = { 8 };
+
+    ghost code = { entry_bytes };
+
+    ghost decode = { entry_of };
+
+    ghost wide = { λ x. refl };
+
+    fn first(bytes: &[u8]) -> Task {
+        match bytes {
+            [a, b, c, d, e, f, g, h, ..] => Task {
+                period: u32::first(&[*a, *b, *c, *d]),
+                run_time: u32::first(&[*e, *f, *g, *h]),
+            },
+            _ => unreachable!(),
+        }
+    }
+
+    fn put(self, at: usize, out: &mut [u8]) {
+        self.period.put(at, out);
+        self.run_time.put(at + u32::WIDTH, out);
+    }
+}
+
+// Writes bytes at a place.
+pub(crate) fn put(bytes: &[u8], at: usize, out: &mut [u8])
+    requires { at + length bytes.now ≤ length out.old }
+    ensures { out.new ≡ written out.old at bytes.now }
+{
+    out[at..at + bytes.len()].copy_from_slice(bytes);
 }

@@ -6,59 +6,20 @@ ghost use Rattle.plan.specs.Plans.{Holds, file_for, judged_write, shares_of, wri
 ghost use Rattle.refusal.specs.Table.{file_told, numbered};
 ghost use Rattle.std.specs.List.{flat_map};
 
-use crate::coding::{bytes_of, entry_bytes};
-use crate::trailer::{
-    ENTRY, MAX_NOTE, SHARE, TRAILER, Trailer, sheet_offset, trailer_bytes, trailer_offset,
-};
-use card::{Card, Task};
+use crate::coding::{Coded, put};
+use crate::trailer::{MAX_NOTE, TRAILER, Trailer, sheet_offset};
+use card::Card;
 use refusal::FileFault;
 use sheet::Sheet;
 
-// Writes bytes at a place.
-fn put(bytes: &[u8], at: usize, out: &mut [u8])
-    requires { at + length bytes.now ≤ length out.old }
-    ensures { out.new ≡ written out.old at bytes.now }
+// Writes items from a place on.
+fn put_all<T: Coded>(items: &[T], at: usize, out: &mut [u8])
+    requires { at + T.WIDTH * length items.now ≤ length out.old }
+    ensures is { out.new ≡ written out.old at (flat_map T.code items.now) }
+    ensures back { map (λ x. T.decode (T.code x)) items.now ≡ items.now }
 {
-    out[at..at + bytes.len()].copy_from_slice(bytes);
-}
-
-// Writes a task entry at a place.
-fn put_task(task: Task, at: usize, out: &mut [u8])
-    requires { at + 8 ≤ length out.old }
-    ensures is { out.new ≡ written out.old at (entry_bytes task) }
-    ensures back { entry_of (entry_bytes task) ≡ task }
-{
-    put(&entry_bytes(task), at, out);
-}
-
-// Writes a share at a place.
-fn put_share(share: u32, at: usize, out: &mut [u8])
-    requires { at + 4 ≤ length out.old }
-    ensures is { out.new ≡ written out.old at (bytes_of 4 share) }
-    ensures back { number_of (bytes_of 4 share) ≡ share }
-{
-    put(&bytes_of(share), at, out);
-}
-
-// Writes the task entries from a place on.
-fn put_tasks(tasks: &[Task], at: usize, out: &mut [u8])
-    requires { at + 8 * length tasks.now ≤ length out.old }
-    ensures is { out.new ≡ written out.old at (flat_map entry_bytes tasks.now) }
-    ensures back { map (λ t. entry_of (entry_bytes t)) tasks.now ≡ tasks.now }
-{
-    for (i, task) in tasks.iter().enumerate() {
-        put_task(*task, at + ENTRY * i, out);
-    }
-}
-
-// Writes shares from a place on.
-fn put_shares(shares: &[u32], at: usize, out: &mut [u8])
-    requires { at + 4 * length shares.now ≤ length out.old }
-    ensures is { out.new ≡ written out.old at (flat_map (bytes_of 4) shares.now) }
-    ensures back { map (λ x. number_of (bytes_of 4 x)) shares.now ≡ shares.now }
-{
-    for (i, share) in shares.iter().enumerate() {
-        put_share(*share, at + SHARE * i, out);
+    for (i, item) in items.iter().enumerate() {
+        item.put(at + T::WIDTH * i, out);
     }
 }
 
@@ -70,7 +31,7 @@ fn put_rows(sheet: &Sheet, at: usize, out: &mut [u8])
 {
     let count = usize::from(sheet.count());
     for k in 0..usize::from(sheet.rows()) {
-        put_shares(sheet.row(k), at + SHARE * (k * count), out);
+        put_all(sheet.row(k), at + u32::WIDTH * (k * count), out);
     }
 }
 
@@ -79,13 +40,17 @@ fn put_trailer(t: Trailer, at: usize, out: &mut [u8])
     requires { at + 12 ≤ length out.old }
     ensures { out.new ≡ written out.old at (trailer_bytes t.card t.sheet t.cores t.count t.rows) }
 {
-    put(&trailer_bytes(t), at, out);
+    put(&t.bytes(), at, out);
 }
 
 // The trailer behind a note of so many bytes, a card and a sheet.
 fn trailer_for(note: usize, card: &Card, sheet: &Sheet) -> Trailer
     requires { note ≤ 255 }
-    ensures { (result.card ≡ note) × (result.sheet ≡ note + 8 * card.now.count) × (result.cores ≡ card.now.cores) × (result.count ≡ card.now.count) × (result.rows ≡ sheet.now.rows) }
+    ensures card { result.card ≡ note }
+    ensures sheet { result.sheet ≡ note + 8 * card.now.count }
+    ensures cores { result.cores ≡ card.now.cores }
+    ensures count { result.count ≡ card.now.count }
+    ensures rows { result.rows ≡ sheet.now.rows }
 {
     let count = card.task_count();
     Trailer {
@@ -102,8 +67,7 @@ fn file_size(note: usize, card: &Card, sheet: &Sheet) -> usize
     requires { note ≤ 255 }
     ensures { result ≡ note + 8 * card.now.count + 4 * (sheet.now.rows * card.now.count) + 12 }
 {
-    let t = trailer_for(note, card, sheet);
-    trailer_offset(t.sheet as usize, t.count, t.rows) + TRAILER
+    trailer_for(note, card, sheet).offset() + TRAILER
 }
 
 // The note is short enough, and the sheet is one for the card's tasks.
@@ -124,9 +88,9 @@ fn put_file(note: &[u8], card: &Card, sheet: &Sheet, out: &mut [u8])
 {
     let t = trailer_for(note.len(), card, sheet);
     put(note, 0, out);
-    put_tasks(card.tasks(), t.card as usize, out);
+    put_all(card.tasks(), t.card as usize, out);
     put_rows(sheet, t.sheet as usize, out);
-    put_trailer(t, trailer_offset(t.sheet as usize, t.count, t.rows), out);
+    put_trailer(t, t.offset(), out);
 }
 
 // Writes the file into the first bytes of `out`, and tells its length. A refusal changes no byte.

@@ -18,16 +18,16 @@ returns c =
     let t = c.trailer_for-t.result in
     let is = c.trailer_for-t.ensures in
     let tasks : c.tasks.result.now ≡ tasks_of card = c.tasks.ensures.all in
-    let cells : t.rows * t.count ≡ sheet.rows * sheet.count = cc (is.3, is.4, c.requires.same) in
+    let cells : t.rows * t.count ≡ sheet.rows * sheet.count = cc (is.count, is.rows, c.requires.same) in
     let foot : trailer_bytes t.card t.sheet t.cores t.count t.rows ≡ trailer_bytes (length note) (length note + 8 * length (tasks_of card)) card.cores (length (tasks_of card)) sheet.rows =
-    same_trailer is.0 (omega (arith, is.1, length_tasks card)) is.2 (omega (arith, is.3, length_tasks card)) is.4 in
+    same_trailer is.card (omega (arith, is.sheet, length_tasks card)) is.cores (omega (arith, is.count, length_tasks card)) is.rows in
     record {
       is =
-          written_four c.args.out.now note (flat_map entry_bytes (tasks_of card)) (flat_map (bytes_of 4) (shares_of sheet)) _ _ _ _ _ t.card t.sheet c.trailer_offset.result c.put.ensures
-          (c.put_tasks.ensures.is ∙ ap (λ (l : List Task). written c.put.new.out t.card (flat_map entry_bytes l)) tasks) c.put_rows.ensures.is
-          (c.put_trailer.ensures ∙ ap (written c.put_rows.new.out c.trailer_offset.result) foot) (sym is.0)
-          (omega (arith, is.0, is.1, length_joined 8 entry_bytes (λ y. refl) (tasks_of card), length_tasks card))
-          (omega (arith, cells, c.trailer_offset.ensures.is, length_joined 4 (bytes_of 4) (λ y. refl) (shares_of sheet), length_shares sheet));
-      tasks = rw tasks at c.put_tasks.ensures.back;
+          written_four c.args.out.now note (flat_map entry_bytes (tasks_of card)) (flat_map (bytes_of 4) (shares_of sheet)) _ _ _ _ _ t.card t.sheet c.offset.result c.put.ensures
+          (c.put_all.ensures.is ∙ ap (λ (l : List Task). written c.put.new.out t.card (flat_map entry_bytes l)) tasks) c.put_rows.ensures.is
+          (c.put_trailer.ensures ∙ ap (written c.put_rows.new.out c.offset.result) foot) (sym is.card)
+          (omega (arith, is.card, is.sheet, length_joined 8 entry_bytes (λ y. refl) (tasks_of card), length_tasks card))
+          (omega (arith, cells, c.offset.ensures.is, length_joined 4 (bytes_of 4) (λ y. refl) (shares_of sheet), length_shares sheet));
+      tasks = rw tasks at c.put_all.ensures.back;
       shares = c.put_rows.ensures.back;
     }

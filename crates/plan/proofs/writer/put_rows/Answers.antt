@@ -11,8 +11,8 @@ use Rattle.plan.proofs.writer.put_rows.Goals as goal
 pub loop-k-init : goal.loop-k-init
 loop-k-init c = rw zero-mul (none_yet c.args.out.now c.args.at, refl)
 
-pub put_shares-requires : goal.put_shares-requires
-put_shares-requires c =
+pub put_all-requires : goal.put_all-requires
+put_all-requires c =
     let sheet = c.args.sheet.now in
     let k = c.loop-k.k in
     let same : k * c.from-count.result ≡ k * sheet.count = ap (λ (n : ℕ). k * n) (c.from-count.ensures ∙ c.count.ensures) in
@@ -29,7 +29,7 @@ loop-k-preserved c =
     let few : k * sheet.count ≤ 128 * 32 = mul-le-mul low sheet.few_shares in
     some_more 4 (bytes_of 4) number_of c.args.out.now c.loop-k.out _ c.args.at _ front c.row.result.now _ (λ y. refl)
     (row_more sheet.shares k sheet.count ∙ ap (λ l. front ++ l) (sym here)) (omega arith)
-    (omega (arith, same, length-take-le (k * sheet.count) sheet.shares (omega arith))) c.loop-k.invariant.0 c.loop-k.invariant.1 c.put_shares.ensures.is c.put_shares.ensures.back
+    (omega (arith, same, length-take-le (k * sheet.count) sheet.shares (omega arith))) c.loop-k.invariant.0 c.loop-k.invariant.1 c.put_all.ensures.is c.put_all.ensures.back
 
 pub returns : goal.returns
 returns c =

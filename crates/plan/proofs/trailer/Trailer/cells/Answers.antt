@@ -1,5 +1,5 @@
 use Rattle.std.proofs.Common.{◌≤◌, mul-le-mul, arith}
-use Rattle.plan.proofs.trailer.cells.Goals as goal
+use Rattle.plan.proofs.trailer.Trailer.cells.Goals as goal
 
 pub returns : goal.returns
 returns c =

@@ -1,7 +1,7 @@
 use Rattle.std.proofs.Common.{◌≡◌, ℕ, ◌-◌, ◌/◌, ◌%◌, ◌≤◌, List, [], ◌∷◌, length, get_or, take, drop, sym, ap, ◌∙◌, arith, rules}
 use Rattle.plan.specs.File.{field, number_of, trailer_bytes}
 use Rattle.plan.proofs.Feet.{foot, five}
-use Rattle.plan.proofs.trailer.trailer_of.Goals as goal
+use Rattle.plan.proofs.trailer.Trailer.of.Goals as goal
 
 pub returns : goal.returns
 unfolding field trailer_bytes
@@ -15,10 +15,10 @@ returns c =
     let one : ℕ → List ℕ = λ x. x ∷ [] in
     record {
       long = search rules;
-      card = c.number.ensures.is ∙ sym (ap (part 0 4) last);
-      sheet = c.number-2.ensures.is ∙ sym (ap (part 4 4) last);
+      card = c.first.ensures.is ∙ sym (ap (part 0 4) last);
+      sheet = c.first-2.ensures.is ∙ sym (ap (part 4 4) last);
       cores = omega (arith, ap (part 8 1) last);
       count = omega (arith, ap (part 9 1) last);
-      rows = c.short_number.ensures.is ∙ sym (ap (part 10 2) last);
-      back = five c.number.ensures.back c.number-2.ensures.back (ap one m) (ap one n) c.short_number.ensures.back ∙ sym last;
+      rows = c.first-3.ensures.is ∙ sym (ap (part 10 2) last);
+      back = five c.first.ensures.back c.first-2.ensures.back (ap one m) (ap one n) c.first-3.ensures.back ∙ sym last;
     }

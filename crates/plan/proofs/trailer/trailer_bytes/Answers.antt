@@ -1,7 +1,0 @@
-use Rattle.std.proofs.Common.{rules}
-use Rattle.plan.specs.File.{trailer_bytes}
-use Rattle.plan.proofs.trailer.trailer_bytes.Goals as goal
-
-pub returns : goal.returns
-unfolding trailer_bytes
-returns c = search rules
