@@ -23,11 +23,7 @@ pub trait LocalScheduler {
     // The letter that it is printed by.
     const LETTER: char;
 
-    // The same letter for contracts, since a constant's value is not known through a bound.
-    ghost mark: { ℕ };
-
-    fn mark() -> char
-        ensures { result ≡ mark };
+    ghost LETTER: { ℕ };
 
     ghost meaning: { Local Self };
 

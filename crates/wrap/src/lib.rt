@@ -43,11 +43,7 @@ fn hand_out(w: &mut Wrap) -> Slice
 impl LocalScheduler for Wrap {
     const LETTER: char = 'W';
 
-    ghost mark = { 87 };
-
-    fn mark() -> char {
-        Self::LETTER
-    }
+    ghost LETTER = { 87 };
 
     ghost meaning = { told };
 
