@@ -1,15 +1,15 @@
 // The line of places: the shares laid end to end, `length` places to a core.
 ghost use Rattle.std.specs.Prelude.{◌≡◌, ℕ, ◌+◌, ◌-◌, ◌^◌, ◌<◌, ◌≤◌, min, max, ◌&&◌, if◌then◌else◌, sum, nat_le, nat_lt};
-ghost use Rattle.wrap.specs.Wrap.{Few, padded, task_at, next_cut, seat_at, seats_at, meets, offset, choice, amount};
+ghost use Rattle.wrap.specs.Wrap.{task_at, next_cut, seat_at, seats_at, meets, offset, choice, amount};
 ghost use Rattle.wrap.specs.Told.{view};
 
 use crate::state::Wrap;
-use local::{MAX_TASKS, Slice};
+use local::Slice;
 
 fn in_stretch(start: u32, end: u32, place: u32) -> bool
     ensures { result ≡ (nat_le start place && nat_lt place end) }
 {
-    start <= place && place < end
+    (start..end).contains(&place)
 }
 
 // The nearest cut so far, or the tick where a share ends, if that is nearer.
@@ -36,18 +36,6 @@ fn line_end(shares: &[u32]) -> u32
     ensures { result ≡ sum shares.now }
 {
     shares.iter().sum()
-}
-
-// The shares with 0 behind them.
-pub(crate) fn table_of(shares: &[u32]) -> [u32; 32]
-    requires { Few shares.now }
-    ensures { result ≡ padded shares.now }
-{
-    let mut table = [0; MAX_TASKS];
-    for (i, share) in shares.iter().enumerate() {
-        table[i] = *share;
-    }
-    table
 }
 
 impl Wrap {
