@@ -5,6 +5,7 @@ ghost use Rattle.wrap.specs.Told.{view};
 
 use crate::state::Wrap;
 use local::Slice;
+use std::array;
 
 fn in_stretch(start: u32, end: u32, place: u32) -> bool
     ensures { result ≡ (nat_le start place && nat_lt place end) }
@@ -90,11 +91,7 @@ impl Wrap {
     fn seats(&self) -> [u8; 16]
         ensures { result ≡ seats_at self.now.shares self.now.width self.now.length (offset (view self.now)) }
     {
-        let mut seats = [0; 16];
-        for core in 0..16 {
-            seats[core] = self.seat_of(core as u32);
-        }
-        seats
+        array::from_fn(|core| self.seat_of(core as u32))
     }
 
     // The next slice.
