@@ -1,5 +1,5 @@
 // The line of places: the shares laid end to end, `length` places to a core.
-ghost use Rattle.std.specs.Prelude.{◌≡◌, ℕ, ◌+◌, ◌-◌, ◌^◌, ◌<◌, ◌≤◌, min, max, ◌&&◌, if◌then◌else◌, sum, nat_le, nat_lt};
+ghost use Rattle.std.specs.Prelude.{◌≡◌, ℕ, ◌+◌, ◌-◌, ◌*◌, ◌^◌, ◌<◌, ◌≤◌, min, max, ◌&&◌, if◌then◌else◌, sum, nat_le, nat_lt};
 ghost use Rattle.wrap.specs.Wrap.{task_at, next_cut, seat_at, seats_at, meets, offset, choice, amount};
 ghost use Rattle.wrap.specs.Told.{view};
 
@@ -103,17 +103,22 @@ impl Wrap {
         Slice::new(self.next_cut(x) - x, self.seats())
     }
 
+    // How many places of a stretch are still to come on a core, from 0.
+    fn places_on(&self, core: u8, start: u32, end: u32) -> u32
+        requires { core < self.now.width }
+        ensures { result ≡ min end (core * self.now.length + self.now.length) - max start (core * self.now.length + offset (view self.now)) }
+    {
+        let first = u32::from(core) * self.length;
+        common(start, end, first + self.offset(), first + self.length)
+    }
+
     // How many places of a stretch are still to come.
     fn places_left(&self, start: u32, end: u32) -> u32
         ensures { result ≡ meets start end self.now.length (offset (view self.now)) self.now.width }
     {
-        let x = self.offset();
-        let mut places = 0;
-        for core in 0..u32::from(self.width) {
-            let first = core * self.length;
-            places += common(start, end, first + x, first + self.length);
-        }
-        places
+        (0..self.width)
+            .map(|core| self.places_on(core, start, end))
+            .sum()
     }
 
     // What is left of a task, by its number from 1.
