@@ -1,24 +1,12 @@
-use Rattle.std.proofs.Common.{◌≡◌, ℕ, suc, ◌+◌, ◌-◌, List, take, sum, sym, ap, ◌∙◌, arith}
+use Rattle.std.proofs.Common.{◌≡◌, ℕ, ◌+◌, ◌-◌, List, take, sum, sym, ap, ◌∙◌, arith}
 use Rattle.chart.proofs.Ranges.{sum_take}
 use Rattle.wrap.specs.Wrap.{share_at, line_end, meets, amount, offset}
 use Rattle.wrap.specs.Told.{view}
 use Rattle.wrap.proofs.Amounts.{amount_meets}
-use Rattle.wrap.proofs.Room.{line_short}
 use Rattle.wrap.proofs.state.Wrap.amount_of.Goals as goal
 
 front : (shares : List ℕ) (n : ℕ) → sum (take (n - 0) shares) ≡ line_end shares n
 front shares n = sum_take shares (n - 0) ∙ ap (line_end shares) (omega arith)
-
-pub line_end-start-requires : goal.line_end-start-requires
-line_end-start-requires c =
-    let w = c.args.self.now in
-    omega (arith, front w.shares (c.args.task - 1), line_short w (c.args.task - 1) (omega (arith, c.requires.1)))
-
-pub overflow_add-start : goal.overflow_add-start
-overflow_add-start c =
-    let w = c.args.self.now in
-    let i : ℕ = c.args.task - 1 in
-    omega (arith, c.line_end-start.ensures, front w.shares i, line_short w (suc i) (omega (arith, c.requires.0, c.requires.1)))
 
 pub returns : goal.returns
 returns c =
