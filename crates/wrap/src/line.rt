@@ -48,6 +48,7 @@ impl Wrap {
     }
 
     // The task whose stretch holds a place, 0 for none.
+    // Kept: no Option, since 0 is the seat of an idle core.
     fn task_at(&self, place: u32) -> u8
         ensures { result ≡ task_at self.now.shares place }
     {
@@ -123,10 +124,11 @@ impl Wrap {
 
     // What is left of a task, by its number from 1.
     pub(crate) fn amount_of(&self, task: usize) -> u32
-        requires { (1 ≤ task) × (task ≤ 32) }
+        requires from_one { 1 ≤ task }
+        requires to_last { task ≤ 32 }
         ensures { result ≡ amount (view self.now) task }
     {
-        let start = line_end(&self.shares[0..task - 1]);
+        let start = line_end(&self.shares[..task - 1]);
         self.places_left(start, start + self.shares[task - 1])
     }
 }
