@@ -31,10 +31,10 @@ fn head_line<S: LocalScheduler>(
     card: &Card,
     sheet: &Sheet,
 ) -> Result<String, AllocError>
-    ensures { IfOk result (λ t. string_bytes t ≡ head_text S.mark card.now.cores card.now.count sheet.now.rows) }
+    ensures { IfOk result (λ t. string_bytes t ≡ head_text S.LETTER card.now.cores card.now.count sheet.now.rows) }
 {
     let line = HeadLine {
-        letter: S::mark(),
+        letter: S::LETTER,
         cores: card.cores(),
         tasks: card.task_count(),
         intervals: sheet.rows(),
@@ -61,7 +61,7 @@ pub fn block<S: LocalScheduler>(
     sheet: &Sheet,
     frame: &Frame,
 ) -> Result<String, AllocError>
-    ensures { IfOk result (λ t. string_bytes t ≡ block_text S.mark card.now sheet.now frame.now.slices.items frame.now.tally) }
+    ensures { IfOk result (λ t. string_bytes t ≡ block_text S.LETTER card.now sheet.now frame.now.slices.items frame.now.tally) }
 {
     let cores = card.cores();
     let mut text = head_line::<S>(heap, card, sheet)?;

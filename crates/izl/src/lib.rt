@@ -41,11 +41,7 @@ fn hand_out(s: &mut Izl) -> Slice
 impl LocalScheduler for Izl {
     const LETTER: char = 'I';
 
-    ghost mark = { 73 };
-
-    fn mark() -> char {
-        Self::LETTER
-    }
+    ghost LETTER = { 73 };
 
     ghost meaning = { told };
 

@@ -1,18 +1,16 @@
 -- The slices of any load serve its interval: from the clauses of a local scheduler alone.
-use Rattle.std.proofs.Common.{◌≡◌, ℕ, zero, suc, ◌-◌, ◌*◌, ◌<◌, ◌≤◌, eqb, ◌⊎◌, List, [], ◌∷◌, length, get_or, replicate, count_by, sym, ◌∙◌, inl, inr, mul-suc, arith}
+use Rattle.std.proofs.Common.{◌≡◌, ℕ, zero, suc, ◌-◌, ◌<◌, ◌≤◌, eqb, ◌⊎◌, List, [], ◌∷◌, length, get_or, replicate, count_by, sym, ◌∙◌, inl, inr, arith}
+use Rattle.std.proofs.Math.Nat.{mul_comm}
 use Rattle.std.specs.List.{AllByRecursion}
 use Rattle.std.proofs.lemmas.List.{length-append, length-replicate, get_or_past}
-use Rattle.std.proofs.lemmas.List.Sums.{sum_by-cons, sum_by-append}
+use Rattle.std.proofs.lemmas.List.Sums.{sum_by-append}
+use Rattle.std.proofs.lemmas.List.Folds.{sum_by-replicate}
 use Rattle.std.proofs.ByRecursion.{All-append, All-get_or}
 use Rattle.std.proofs.lemmas.Bool.{cond_both, cases_lt}
 use Rattle.chart.specs.Charts.{Row, got, Once}
 use Rattle.local.specs.Meaning.{Local, Handed, Fit, amount_of, share_of}
 use Rattle.local.specs.Intervals.{Slices, Interval, laid, Served, Each}
 use Rattle.local.specs.declared.slice.Slice.{Slice}
-
-got_replicate : (task n : ℕ) (row : Row) → got task (replicate n row) ≡ count_by (eqb task) row * n
-got_replicate task zero row = omega arith
-got_replicate task (suc n) row = omega (arith, sum_by-cons (λ (r : Row). count_by (eqb task) r) row (replicate n row), got_replicate task n row, mul-suc (count_by (eqb task) row) n)
 
 all_replicate : (P : Row → Type 0) (n : ℕ) (row : Row) → P row → AllByRecursion P (replicate n row)
 all_replicate P zero row p = tt
@@ -27,7 +25,7 @@ module _ {S : Type 0} (m : Local S) where
   gets : (task : ℕ) → 1 ≤ task → (s : S) (zs : List Slice) (s' : S) → amount_of m s task ≤ m.left s → Slices m s zs s' → got task (laid zs) ≡ amount_of m s task
   gets task some s [] s' l e = omega (arith, e.0)
   gets task some s (z ∷ zs) s' l e =
-      omega (arith, sum_by-append (λ (r : Row). count_by (eqb task) r) (replicate z.length z.seats) (laid zs), got_replicate task z.length z.seats, gets task some e.0 zs s' (e.1.fits task) e.2, e.1.amounts task some)
+      omega (arith, sum_by-append (λ (r : Row). count_by (eqb task) r) (replicate z.length z.seats) (laid zs), sum_by-replicate (λ (r : Row). count_by (eqb task) r) z.length z.seats, mul_comm z.length (count_by (eqb task) z.seats), gets task some e.0 zs s' (e.1.fits task) e.2, e.1.amounts task some)
 
   once : (s : S) (zs : List Slice) (s' : S) → Slices m s zs s' → AllByRecursion Once (laid zs)
   once s [] s' e = tt

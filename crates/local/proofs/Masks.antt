@@ -6,6 +6,7 @@ use Rattle.std.proofs.lemmas.List.Sums.{sum_by-cons}
 use Rattle.std.proofs.lemmas.Nat.{or_shifted, or_comm, one_shl, shr-shr}
 use Rattle.std.proofs.lemmas.List.{take_more, length-take-le}
 use Rattle.std.proofs.lemmas.Bool.{cond_both}
+use Rattle.local.specs.declared.slice.Slice.{Slice}
 use Rattle.local.specs.Masks.{bit, mask, seated_cores}
 
 bit_le : (s : ℕ) → bit s ≤ 1
@@ -35,6 +36,10 @@ ones_mask (x ∷ xs) =
     ∙ ap (λ (q : ℕ). bit x + ones q) (high x (mask xs))
     ∙ ap (λ (q : ℕ). bit x + q) (ones_mask xs)
     ∙ sym (sum_by-cons bit x xs)
+
+-- of a slice, whose mask tells its seats
+pub ones_seated : (z : Slice) → ones z.busy ≡ seated_cores z.seats
+ones_seated z = ap ones z.masked ∙ ones_mask z.seats
 
 -- bit c is set exactly where the core at place c is seated
 pub mask_tells : (seats : List ℕ) (c : ℕ) → c < length seats → mask seats / 2 ^ c % 2 ≡ bit (get_or seats c 0)

@@ -1,7 +1,7 @@
 // What a local scheduler means: it hands out the slices of one interval after another.
 #![tactic(auto)]
 
-ghost use Rattle.std.specs.Prelude.{◌≡◌, ℕ, ◌+◌, ◌*◌, ◌/◌, ◌%◌, ◌^◌, ◌<◌, ◌≤◌, true, false, if◌then◌else◌, MatchResult, bit_or, count_ones, nat_lt, slice_index};
+ghost use Rattle.std.specs.Prelude.{◌≡◌, ℕ, ◌+◌, ◌*◌, ◌/◌, ◌%◌, ◌^◌, ◌<◌, ◌≤◌, true, false, if◌then◌else◌, MatchResult, bit_or, count_ones, length, nat_lt, slice_index, sum};
 ghost use Rattle.refusal.specs.Table.{local_told, refusal};
 ghost use Rattle.refusal.specs.declared.Layer.TheVariants.{Local as LocalLayer};
 ghost use Rattle.local.specs.Masks.{bit, mask, seated_cores};
@@ -19,15 +19,13 @@ pub const MAX_TASKS: usize = 32;
 
 pub const MAX_LENGTH: u32 = 1_000_000;
 
+// Kept: what `load`, `next` and `amount` refuse is told in each impl: provided methods would call methods with a `requires`, which no public call has.
+// Kept: width, length and shares stay apart: a struct of them would be made at each call of `load` and taken apart in it.
 pub trait LocalScheduler {
     // The letter that it is printed by.
     const LETTER: char;
 
-    // The same letter for contracts, since a constant's value is not known through a bound.
-    ghost mark: { ℕ };
-
-    fn mark() -> char
-        ensures { result ≡ mark };
+    ghost LETTER: { ℕ };
 
     ghost meaning: { Local Self };
 
@@ -63,24 +61,20 @@ fn marked(busy: u16, core: usize, seat: u8) -> u16
     }
 }
 
+#[tactic(auto, using(crate::proofs::Masks::mask_more))]
 fn mask_of(seats: &[u8; 16]) -> u16
     ensures { result ≡ mask seats.now }
 {
-    let mut busy: u16 = 0;
-    for c in 0..16 {
-        busy = marked(busy, c, seats[c]);
+    let mut busy = 0;
+    for (core, seat) in seats.iter().enumerate() {
+        busy = marked(busy, core, *seat);
     }
     busy
 }
 
-fn ones_of(busy: u16) -> u32
-    ensures { result ≡ count_ones busy }
-{
-    busy.count_ones()
-}
-
 impl Slice {
     // The only place where a slice is made.
+    #[tactic(auto, using(crate::proofs::Masks::mask_tells))]
     pub fn new(length: u32, seats: [u8; 16]) -> Slice
         ensures fields { (result.length ≡ length) × (result.seats ≡ seats) }
         ensures tells { (c : ℕ) → c < 16 → result.busy / 2 ^ c % 2 ≡ bit (slice_index result.seats c) }
@@ -94,11 +88,12 @@ impl Slice {
     }
 
     // How many cores are seated.
+    #[tactic(auto, using(crate::proofs::Masks::ones_seated))]
     pub fn busy_cores(&self) -> u32
         ensures ones { result ≡ count_ones self.now.busy }
         ensures cores { result ≡ seated_cores self.now.seats }
     {
-        ones_of(self.busy)
+        self.busy.count_ones()
     }
 }
 
@@ -106,7 +101,14 @@ fn in_limits(width: u8, length: u32, count: usize) -> bool
     ensures yes { result ≡ true → Limits width length count }
     ensures not { result ≡ false → Limits width length count → ⊥ }
 {
-    1 <= width && width <= MAX_CORES && 1 <= length && length <= MAX_LENGTH && count <= MAX_TASKS
+    (1..=MAX_CORES).contains(&width) && (1..=MAX_LENGTH).contains(&length) && count <= MAX_TASKS
+}
+
+fn total(shares: &[u32]) -> u64
+    requires { length shares.now ≤ 32 }
+    ensures { result ≡ sum shares.now }
+{
+    shares.iter().map(|share| u64::from(*share)).sum()
 }
 
 // Whether a load takes a width, a length and shares.
@@ -114,15 +116,7 @@ pub fn fits(width: u8, length: u32, shares: &[u32]) -> bool
     ensures yes { result ≡ true → Fit width length shares.now }
     ensures not { result ≡ false → Fit width length shares.now → ⊥ }
 {
-    if !in_limits(width, length, shares.len()) {
-        return false;
-    }
-    let mut sum: u64 = 0;
-    for share in shares {
-        if *share > length {
-            return false;
-        }
-        sum += u64::from(*share);
-    }
-    sum <= u64::from(width) * u64::from(length)
+    in_limits(width, length, shares.len())
+        && shares.iter().all(|share| *share <= length)
+        && total(shares) <= u64::from(width) * u64::from(length)
 }

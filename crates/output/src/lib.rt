@@ -42,7 +42,7 @@ pub fn new_block<S: LocalScheduler + Drop>(
     card: &Card,
     sheet: &Sheet,
 ) -> Result<String, FrameFault>
-    ensures { MatchResult result (λ t. Block S.meaning S.mark card.now sheet.now (string_bytes t)) (λ e. Told card.now sheet.now e) }
+    ensures { MatchResult result (λ t. Block S.meaning S.LETTER card.now sheet.now (string_bytes t)) (λ e. Told card.now sheet.now e) }
 {
     let frame = frame_of(heap, card, sheet, S::new(), 0)?;
     Ok(block::<S>(heap, card, sheet, &frame)?)

@@ -144,7 +144,7 @@ fn print_plan<S: LocalScheduler + Drop>(
 ) -> io::Result<()> {
     match Dispatcher::launch(card, sheet, scheduler, 0) {
         Ok(mut run) => {
-            print_head(rt, S::mark(), card, sheet)?;
+            print_head(rt, S::LETTER, card, sheet)?;
             print_frame(rt, card, intervals, &mut run)
         }
         Err(fault) => print_refusal(rt, fault.told()),

@@ -7,3 +7,4 @@ pub mod Handing
 pub mod Loading
 pub mod Telling
 pub mod Room
+pub mod FromFn

@@ -1,12 +1,13 @@
 -- Loading shares that fit.
-use Rattle.std.proofs.Common.{◌≡◌, ℕ, zero, suc, ◌+◌, ◌-◌, ◌≤◌, cond, eqb, List, [], ◌∷◌, map, length, sum_by, sum, sym, refl, ap, ◌∙◌, ⊎_elim, arith}
-use Rattle.std.specs.List.{range_with_len}
+use Rattle.std.proofs.Common.{◌≡◌, ℕ, zero, suc, ◌+◌, ◌-◌, ◌≤◌, cond, eqb, List, [], ◌∷◌, ◌++◌, ◌*◌, length, take, replicate, sum_by, sum, sym, refl, ap, ◌∙◌, ⊎_elim, arith}
 use Rattle.std.proofs.lemmas.Bool.{cases_lt, cond-false, ne_eqb}
-use Rattle.std.proofs.lemmas.List.{get_or_past, take_all}
-use Rattle.std.proofs.lemmas.List.FromFn.{get_or-map-range_with_len, length-map-range_with_len, fill_by_all}
+use Rattle.std.proofs.lemmas.List.{get_or_past, get_or_append_left, get_or-append_right, take_all, length-append, length-replicate}
+use Rattle.std.proofs.lemmas.List.Sums.{sum_by-append}
+use Rattle.std.proofs.lemmas.List.Folds.{sum_by-replicate}
+use Rattle.std.proofs.lemmas.List.FromFn.{fill_by_all}
 use Rattle.std.proofs.ByRecursion.{All-get_or}
 use Rattle.chart.specs.Sums.{upto}
-use Rattle.chart.proofs.Ranges.{upto_same, upto_none, upto_add, sum_by_made, sum_take}
+use Rattle.chart.proofs.Ranges.{upto_same, sum_by_made, sum_take}
 use Rattle.local.specs.Masks.{bit}
 use Rattle.local.specs.Meaning.{Fit, Loaded, amount_of, share_of, positive}
 use Rattle.wrap.specs.Wrap.{Interval, share_at, largest, line_end, padded, loaded, allowance, cut}
@@ -26,26 +27,37 @@ pub largest_under : (shares : List ℕ) (len : ℕ) → ((i : ℕ) → share_at 
 largest_under [] len each = omega arith
 largest_under (x ∷ xs) len each = omega (arith, each 0, largest_under xs len (λ i. each (suc i)))
 
+zeros : (k i : ℕ) → share_at (replicate k 0) i ≡ 0
+zeros zero i = refl
+zeros (suc k) zero = refl
+zeros (suc k) (suc i) = zeros k i
+
+sum_places : (f : ℕ → ℕ) (xs : List ℕ) → upto (λ i. f (share_at xs i)) (length xs) ≡ sum_by f xs
+sum_places f xs = sym (ap (sum_by f) (fill_by_all (share_at xs) xs (length xs) 0 refl (λ _ _. refl)) ∙ sum_by_made f (share_at xs) (length xs))
+
 module _ (shares : List ℕ) (few : length shares ≤ 32) where
+  abbrev k : ℕ
+  k = 32 - length shares
+
+  abbrev rest : List ℕ
+  rest = replicate k 0
+
   length_padded : length (padded shares) ≡ 32
-  length_padded = length-map-range_with_len (share_at shares) 0 32
+  length_padded = omega (arith, length-append (take 32 shares) rest, ap length (take_all 32 shares few), length-replicate {A = ℕ} k 0)
 
   share_padded : (i : ℕ) → share_at (padded shares) i ≡ share_at shares i
-  share_padded i = ⊎_elim
-      (λ l. get_or-map-range_with_len (share_at shares) 0 32 i i 0 l (omega arith))
-      (λ l. get_or_past (padded shares) i 0 (omega (arith, length_padded)) ∙ sym (get_or_past shares i 0 (omega arith)))
-      (cases_lt i 32)
+  share_padded i =
+      ap (λ (xs : List ℕ). share_at (xs ++ rest) i) (take_all 32 shares few)
+      ∙ ⊎_elim
+      (λ l. get_or_append_left shares rest 0 i l)
+      (λ l. get_or-append_right shares rest (length shares) i 0 refl l ∙ zeros k (i - length shares) ∙ sym (get_or_past shares i 0 l))
+      (cases_lt i (length shares))
 
   -- a sum over the shares is one over the whole table
   sum_padded : (f : ℕ → ℕ) → f 0 ≡ 0 → upto (λ i. f (share_at (padded shares) i)) (length (padded shares)) ≡ sum_by f shares
   sum_padded f z =
-      let n : ℕ = length shares in
-      let h : ℕ → ℕ = λ i. f (share_at shares i) in
-      let whole : n + (32 - n) ≡ 32 = omega arith in
-      let made : shares ≡ map (share_at shares) (range_with_len 0 n) = fill_by_all (share_at shares) shares n 0 refl (λ k _. refl) in
-      let behind = upto_same (λ i. h (n + i)) (λ _. 0) (32 - n) (λ i _. ap f (get_or_past shares (n + i) 0 (omega arith)) ∙ z) in
-      upto_same _ h (length (padded shares)) (λ i _. ap f (share_padded i))
-      ∙ omega (arith, ap (upto h) length_padded, ap (upto h) whole, upto_add h n (32 - n), behind, upto_none (32 - n), sum_by_made f (share_at shares) n, ap (sum_by f) made)
+      let none : k * f 0 ≡ k * 0 = ap (λ (n : ℕ). k * n) z in
+      omega (arith, sum_places f (padded shares), sum_by-append f (take 32 shares) rest, ap (sum_by f) (take_all 32 shares few), sum_by-replicate f k 0, none)
 
 module _ (width len : ℕ) (shares : List ℕ) (fit : Fit width len shares) where
   few : length shares ≤ 32

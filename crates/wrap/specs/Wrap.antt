@@ -1,5 +1,5 @@
 -- Wrap-round: the shares of an interval laid end to end over its cores, and slices cut where a share ends.
-use Rattle.std.specs.Prelude.{◌≡◌, ℕ, zero, suc, ◌+◌, ◌-◌, ◌*◌, ◌%◌, ◌<◌, ◌≤◌, min, max, Bool, true, false, cond, ◌&&◌, ◌||◌, List, [], ◌∷◌, map, length, ◌==◌, ◌≢◌, nat_lt, slice_index, refl}
+use Rattle.std.specs.Prelude.{◌≡◌, ℕ, zero, suc, ◌+◌, ◌-◌, ◌*◌, ◌%◌, ◌<◌, ◌≤◌, min, max, Bool, true, false, cond, ◌&&◌, ◌||◌, List, [], ◌∷◌, ◌++◌, map, length, take, replicate, ◌==◌, ◌≢◌, nat_lt, slice_index, refl}
 use Rattle.std.specs.List.{range_with_len}
 use Rattle.chart.specs.Sums.{upto}
 use Rattle.chart.specs.Laid.{whose}
@@ -15,13 +15,9 @@ share_at shares i = slice_index shares i
 abbrev pub Table : List ℕ → Type 0
 Table shares = length shares ≡ 32
 
--- shares that such a table has room for
-abbrev pub Few : List ℕ → Type 0
-Few shares = length shares ≤ 32
-
 -- shares as such a table, 0 behind them
 abbrev pub padded : List ℕ → List ℕ
-padded shares = map (share_at shares) (range_with_len 0 32)
+padded shares = take 32 shares ++ replicate (32 - length shares) 0
 
 -- the largest share
 abbrev pub largest : List ℕ → ℕ

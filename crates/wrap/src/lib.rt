@@ -1,10 +1,10 @@
 // Wrap-round: the shares of an interval are laid end to end over its cores, and slices are cut where a share ends.
 #![tactic(auto)]
 
-ghost use Rattle.std.specs.Prelude.{◌≡◌, ℕ, ◌≤◌, IfOk, MatchResult};
+ghost use Rattle.std.specs.Prelude.{◌≡◌, IfOk, MatchResult};
 ghost use Rattle.refusal.specs.Table.{local_told, refusal};
 ghost use Rattle.refusal.specs.declared.Layer.TheVariants.{Local as LocalLayer};
-ghost use Rattle.local.specs.Meaning.{Handed, Loaded, Fit};
+ghost use Rattle.local.specs.Meaning.{Handed};
 ghost use Rattle.wrap.specs.Wrap.{Laid};
 ghost use Rattle.wrap.specs.Told.{view, told};
 
@@ -13,41 +13,14 @@ use refusal::LocalFault;
 
 mod line;
 mod state;
+mod steps;
 
 pub use state::Wrap;
-
-// Takes a load that fits.
-fn take_load(w: &mut Wrap, width: u8, length: u32, shares: &[u32])
-    requires { Fit width length shares.now }
-    ensures { Loaded told w.old width length shares.now w.new }
-{
-    *w = Wrap {
-        width,
-        length,
-        left: length,
-        shares: line::table_of(shares),
-    };
-}
-
-// Hands out the next slice.
-fn hand_out(w: &mut Wrap) -> Slice
-    requires { 1 ≤ w.old.left }
-    ensures handed { Handed told w.old result w.new }
-    ensures laid { Laid (view w.old) result }
-{
-    let slice = w.chosen();
-    w.left -= slice.length;
-    slice
-}
 
 impl LocalScheduler for Wrap {
     const LETTER: char = 'W';
 
-    ghost mark = { 87 };
-
-    fn mark() -> char {
-        Self::LETTER
-    }
+    ghost LETTER = { 87 };
 
     ghost meaning = { told };
 
@@ -64,7 +37,7 @@ impl LocalScheduler for Wrap {
         if !fits(width, length, shares) {
             return Err(LocalFault::Misfit);
         }
-        take_load(self, width, length, shares);
+        self.take(width, length, shares);
         Ok(())
     }
 
@@ -75,7 +48,7 @@ impl LocalScheduler for Wrap {
         if self.left == 0 {
             return Err(LocalFault::Over);
         }
-        Ok(hand_out(self))
+        Ok(self.hand_out())
     }
 
     fn ticks_left(&self) -> u32 {
@@ -83,11 +56,9 @@ impl LocalScheduler for Wrap {
     }
 
     fn amount(&self, task: u32) -> u32 {
-        let task = task as usize;
-        if 1 <= task && task <= MAX_TASKS {
-            self.amount_of(task)
-        } else {
-            0
+        match usize::try_from(task) {
+            Ok(task @ 1..=MAX_TASKS) => self.amount_of(task),
+            _ => 0,
         }
     }
 }
@@ -97,9 +68,10 @@ mod tests {
     use super::*;
     use std::test::Fail;
 
-    fn next_is(w: &mut Wrap, length: u32, first: u8, second: u8) -> Result<bool, Fail> {
+    // The next slice's length, and its first two seats.
+    fn next_of(w: &mut Wrap) -> Result<(u32, u8, u8), Fail> {
         let slice = w.next()?;
-        Ok(slice.length == length && slice.seats[0] == first && slice.seats[1] == second)
+        Ok((slice.length, slice.seats[0], slice.seats[1]))
     }
 
     // Task 3 is cut by the end of core 1, which has its first part, at the end; core 2 has the rest, from tick 0.
@@ -110,14 +82,14 @@ mod tests {
         assert_eq!(rt; w.load(2, 6, &[7]), Err(LocalFault::Misfit));
         w.load(2, 6, &[6, 6])?;
         w.load(2, 6, &[1, 2, 5])?;
-        assert!(rt; next_is(&mut w, 1, 1, 3)?);
-        assert!(rt; next_is(&mut w, 1, 2, 3)?);
+        assert_eq!(rt; next_of(&mut w)?, (1, 1, 3));
+        assert_eq!(rt; next_of(&mut w)?, (1, 2, 3));
         assert_eq!(rt; w.amount(3), 3);
-        assert!(rt; next_is(&mut w, 1, 2, 0)?);
-        assert!(rt; next_is(&mut w, 3, 3, 0)?);
+        assert_eq!(rt; next_of(&mut w)?, (1, 2, 0));
+        assert_eq!(rt; next_of(&mut w)?, (3, 3, 0));
         assert_eq!(rt; w.ticks_left(), 0);
         w.load(2, 6, &[])?;
-        assert!(rt; next_is(&mut w, 6, 0, 0)?);
+        assert_eq!(rt; next_of(&mut w)?, (6, 0, 0));
         Ok(())
     }
 }

@@ -1,15 +1,16 @@
 // The line of places: the shares laid end to end, `length` places to a core.
-ghost use Rattle.std.specs.Prelude.{◌≡◌, ℕ, ◌+◌, ◌-◌, ◌^◌, ◌<◌, ◌≤◌, min, max, ◌&&◌, if◌then◌else◌, sum, nat_le, nat_lt};
-ghost use Rattle.wrap.specs.Wrap.{Few, padded, task_at, next_cut, seat_at, seats_at, meets, offset, choice, amount};
+ghost use Rattle.std.specs.Prelude.{◌≡◌, ℕ, ◌+◌, ◌-◌, ◌*◌, ◌^◌, ◌<◌, ◌≤◌, min, max, ◌&&◌, if◌then◌else◌, sum, nat_le, nat_lt};
+ghost use Rattle.wrap.specs.Wrap.{task_at, next_cut, seat_at, seats_at, meets, offset, choice, amount};
 ghost use Rattle.wrap.specs.Told.{view};
 
 use crate::state::Wrap;
-use local::{MAX_TASKS, Slice};
+use local::Slice;
+use std::array;
 
 fn in_stretch(start: u32, end: u32, place: u32) -> bool
     ensures { result ≡ (nat_le start place && nat_lt place end) }
 {
-    start <= place && place < end
+    (start..end).contains(&place)
 }
 
 // The nearest cut so far, or the tick where a share ends, if that is nearer.
@@ -38,18 +39,6 @@ fn line_end(shares: &[u32]) -> u32
     shares.iter().sum()
 }
 
-// The shares with 0 behind them.
-pub(crate) fn table_of(shares: &[u32]) -> [u32; 32]
-    requires { Few shares.now }
-    ensures { result ≡ padded shares.now }
-{
-    let mut table = [0; MAX_TASKS];
-    for (i, share) in shares.iter().enumerate() {
-        table[i] = *share;
-    }
-    table
-}
-
 impl Wrap {
     // The tick that the next slice begins at.
     fn offset(&self) -> u32
@@ -59,6 +48,7 @@ impl Wrap {
     }
 
     // The task whose stretch holds a place, 0 for none.
+    // Kept: no Option, since 0 is the seat of an idle core.
     fn task_at(&self, place: u32) -> u8
         ensures { result ≡ task_at self.now.shares place }
     {
@@ -102,11 +92,7 @@ impl Wrap {
     fn seats(&self) -> [u8; 16]
         ensures { result ≡ seats_at self.now.shares self.now.width self.now.length (offset (view self.now)) }
     {
-        let mut seats = [0; 16];
-        for core in 0..16 {
-            seats[core] = self.seat_of(core as u32);
-        }
-        seats
+        array::from_fn(|core| self.seat_of(core as u32))
     }
 
     // The next slice.
@@ -118,25 +104,31 @@ impl Wrap {
         Slice::new(self.next_cut(x) - x, self.seats())
     }
 
+    // How many places of a stretch are still to come on a core, from 0.
+    fn places_on(&self, core: u8, start: u32, end: u32) -> u32
+        requires { core < self.now.width }
+        ensures { result ≡ min end (core * self.now.length + self.now.length) - max start (core * self.now.length + offset (view self.now)) }
+    {
+        let first = u32::from(core) * self.length;
+        common(start, end, first + self.offset(), first + self.length)
+    }
+
     // How many places of a stretch are still to come.
     fn places_left(&self, start: u32, end: u32) -> u32
         ensures { result ≡ meets start end self.now.length (offset (view self.now)) self.now.width }
     {
-        let x = self.offset();
-        let mut places = 0;
-        for core in 0..u32::from(self.width) {
-            let first = core * self.length;
-            places += common(start, end, first + x, first + self.length);
-        }
-        places
+        (0..self.width)
+            .map(|core| self.places_on(core, start, end))
+            .sum()
     }
 
     // What is left of a task, by its number from 1.
     pub(crate) fn amount_of(&self, task: usize) -> u32
-        requires { (1 ≤ task) × (task ≤ 32) }
+        requires from_one { 1 ≤ task }
+        requires to_last { task ≤ 32 }
         ensures { result ≡ amount (view self.now) task }
     {
-        let start = line_end(&self.shares[0..task - 1]);
+        let start = line_end(&self.shares[..task - 1]);
         self.places_left(start, start + self.shares[task - 1])
     }
 }

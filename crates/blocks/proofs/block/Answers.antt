@@ -31,4 +31,4 @@ returns g c =
     let body : string_bytes c.loop-stamped.text ≡ string_bytes c.in_ok-text.text ++ flat_map f items = c.loop-stamped.invariant ∙ ap (λ (l : List Stamped). string_bytes c.in_ok-text.text ++ flat_map f l) all in
     pushed c.as_str-2.result.now body c.in_ok-push_str-2.was c.push_str-2.ensures.bytes
     ∙ ap₂ (λ (a b : List ℕ). (a ++ flat_map f items) ++ b) c.in_ok-text.ensures (c.as_str-2.ensures.value ∙ c.in_ok-sum.ensures)
-    ∙ ap (λ (n : ℕ). (head_text g.S.LocalScheduler.mark c.args.card.now.cores c.args.card.now.count c.args.sheet.now.rows ++ flat_map (line_text n) items) ++ sum_text c.args.frame.now.tally.0 c.args.frame.now.tally.1 c.args.frame.now.tally.2) c.cores-cores.ensures
+    ∙ ap (λ (n : ℕ). (head_text g.S.LocalScheduler.LETTER c.args.card.now.cores c.args.card.now.count c.args.sheet.now.rows ++ flat_map (line_text n) items) ++ sum_text c.args.frame.now.tally.0 c.args.frame.now.tally.1 c.args.frame.now.tally.2) c.cores-cores.ensures

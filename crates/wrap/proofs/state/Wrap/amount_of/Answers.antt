@@ -1,31 +1,16 @@
-use Rattle.std.proofs.Common.{◌≡◌, ℕ, suc, ◌+◌, ◌-◌, List, take, sum, sym, ap, ◌∙◌, arith}
+use Rattle.std.proofs.Common.{◌≡◌, ℕ, ◌+◌, ◌-◌, sym, ap, ◌∙◌, arith}
 use Rattle.chart.proofs.Ranges.{sum_take}
 use Rattle.wrap.specs.Wrap.{share_at, line_end, meets, amount, offset}
 use Rattle.wrap.specs.Told.{view}
 use Rattle.wrap.proofs.Amounts.{amount_meets}
-use Rattle.wrap.proofs.Room.{line_short}
 use Rattle.wrap.proofs.state.Wrap.amount_of.Goals as goal
-
-front : (shares : List ℕ) (n : ℕ) → sum (take (n - 0) shares) ≡ line_end shares n
-front shares n = sum_take shares (n - 0) ∙ ap (line_end shares) (omega arith)
-
-pub line_end-start-requires : goal.line_end-start-requires
-line_end-start-requires c =
-    let w = c.args.self.now in
-    omega (arith, front w.shares (c.args.task - 1), line_short w (c.args.task - 1) (omega (arith, c.requires.1)))
-
-pub overflow_add-start : goal.overflow_add-start
-overflow_add-start c =
-    let w = c.args.self.now in
-    let i : ℕ = c.args.task - 1 in
-    omega (arith, c.line_end-start.ensures, front w.shares i, line_short w (suc i) (omega (arith, c.requires.0, c.requires.1)))
 
 pub returns : goal.returns
 returns c =
     let w = c.args.self.now in
     let i : ℕ = c.args.task - 1 in
-    let start : c.line_end-start.result ≡ line_end w.shares i = c.line_end-start.ensures ∙ front w.shares i in
+    let start : c.line_end-start.result ≡ line_end w.shares i = c.line_end-start.ensures ∙ sum_take w.shares i in
     c.places_left.ensures
     ∙ ap (λ (a : ℕ). meets a (a + share_at w.shares i) w.length (offset (view w)) w.width) start
-    ∙ sym (amount_meets w.shares w.length w.width i (offset (view w)) w.left (omega (arith, w.full, c.requires.0, c.requires.1)) (omega (arith, w.within)))
-    ∙ ap (amount (view w)) (omega (arith, c.requires.0))
+    ∙ sym (amount_meets w.shares w.length w.width i (offset (view w)) w.left (omega (arith, w.full, c.requires.from_one, c.requires.to_last)) (omega (arith, w.within)))
+    ∙ ap (amount (view w)) (omega (arith, c.requires.from_one))

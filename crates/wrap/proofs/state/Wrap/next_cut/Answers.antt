@@ -1,14 +1,11 @@
-use Rattle.std.proofs.Common.{◌≡◌, ℕ, ◌+◌, ◌%◌, length, refl, ap, subst, arith}
+use Rattle.std.proofs.Common.{◌≡◌, ℕ, ◌+◌, ◌%◌, length, ap, subst, arith}
 use Rattle.wrap.specs.Wrap.{share_at, line_end, cut_by}
-use Rattle.wrap.proofs.Cuts.{Least, least_none, least_more, least_one, next_least}
+use Rattle.wrap.proofs.Cuts.{Least, least_more, least_one, next_least}
 use Rattle.wrap.proofs.Room.{line_more, line_short}
 use Rattle.wrap.proofs.state.Wrap.next_cut.Goals as goal
 
 pub overflow_add-end : goal.overflow_add-end
 overflow_add-end c = omega (arith, c.loop-share.invariant.0, line_more c.args.self.now.shares c.loop-share.share-index, line_short c.args.self.now (c.loop-share.share-index + 1) (omega arith))
-
-pub loop-share-init : goal.loop-share-init
-loop-share-init c = (refl, least_none c.args.self.now.shares c.args.self.now.length c.args.past c.requires)
 
 pub loop-share-preserved : goal.loop-share-preserved
 loop-share-preserved c =

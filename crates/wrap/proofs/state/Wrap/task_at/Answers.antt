@@ -1,4 +1,4 @@
-use Rattle.std.proofs.Common.{◌≡◌, ℕ, ◌+◌, ◌<◌, ◌≤◌, true, false, ◌&&◌, ltb, leb, length, sym, ap, ◌∙◌, add-one, arith}
+use Rattle.std.proofs.Common.{◌≡◌, ℕ, ◌+◌, ◌<◌, true, ◌&&◌, ltb, leb, length, sym, ap, ◌∙◌, add-one, arith}
 use Rattle.std.proofs.lemmas.Bool.Decides.{nat_tests}
 use Rattle.chart.proofs.Laying.{whose_is}
 use Rattle.wrap.specs.Wrap.{share_at, line_end}
@@ -9,17 +9,8 @@ use Rattle.wrap.proofs.state.Wrap.task_at.Goals as goal
 below : (a b p : ℕ) → true ≡ (leb a p && ltb p b) → p < b
 below a b p e = grind (arith, nat_tests)
 
-behind : (a b p : ℕ) → false ≡ (leb a p && ltb p b) → a ≤ p → b ≤ p
-behind a b p e l = grind (arith, nat_tests)
-
 pub overflow_add-end : goal.overflow_add-end
 overflow_add-end c = omega (arith, c.loop-i.invariant.0, line_more c.args.self.now.shares c.loop-i.i, line_short c.args.self.now (c.loop-i.i + 1) (omega arith))
-
-pub loop-i-preserved : goal.loop-i-preserved
-loop-i-preserved c = (
-  omega (arith, c.loop-i.invariant.0, line_more c.args.self.now.shares c.loop-i.i),
-  behind _ _ _ c.if-in_stretch.ensures c.loop-i.invariant.1,
-)
 
 pub returns-then-in_stretch : goal.returns-then-in_stretch
 returns-then-in_stretch c =

@@ -2,13 +2,13 @@ use Rattle.std.proofs.Common.{ℕ, ◌≤◌, List, length, sum, sym, ap, ◌∙
 use Rattle.wrap.specs.Wrap.{padded, largest}
 use Rattle.wrap.proofs.Loading.{line_sum, largest_under, loaded_good}
 use Rattle.wrap.proofs.Telling.{told_loaded}
-use Rattle.wrap.proofs.take_load.Goals as goal
+use Rattle.wrap.proofs.state.Wrap.take.Goals as goal
 
-pub invariant_of-w : goal.invariant_of-w
-invariant_of-w c =
+pub invariant_of-self : goal.invariant_of-self
+invariant_of-self c =
     let g = loaded_good c.args.width c.args.length c.args.shares.now c.requires in
     let xs = padded c.args.shares.now in
-    let e = c.table_of.ensures in
+    let e = c.padded.ensures in
     record {
       wide = g.wide;
       short = c.requires.limits.3;
@@ -19,5 +19,5 @@ invariant_of-w c =
     }
 
 pub returns : goal.returns
-returns c = told_loaded c.args.w.now _ c.args.width c.args.length c.args.shares.now c.requires
-    (ap (λ (xs : List ℕ). record { width = c.args.width; len = c.args.length; left = c.args.length; shares = xs }) c.table_of.ensures)
+returns c = told_loaded c.args.self.now _ c.args.width c.args.length c.args.shares.now c.requires
+    (ap (λ (xs : List ℕ). record { width = c.args.width; len = c.args.length; left = c.args.length; shares = xs }) c.padded.ensures)
