@@ -1,5 +1,3 @@
-pub mod Shifts
-pub mod Views
 pub mod ByKind
 pub mod Readying
 pub mod Queueing

@@ -13,13 +13,13 @@ use Rattle.izl_rule.proofs.Handing.{handed, after_sound, all_seated}
 use Rattle.izl_rule.proofs.Loading.{loaded, load_sound}
 use Rattle.izl.specs.declared.tables.Tables.{Tables}
 use Rattle.izl.specs.declared.state.Izl.{Izl}
-use Rattle.izl.specs.View.{view, Within, Good}
+use Rattle.izl.specs.View.{view}
 use Rattle.izl.specs.Told.{told}
 use Rattle.izl.specs.Served.{Busy, Serves}
 use Rattle.izl.proofs.Carried.{carried}
 
-pub stays_good : (t t' : Tables) → Good t → 1 ≤ t.left → Within t' → view t' ≡ rule.after (view t) → Good t'
-stays_good t t' g l w e = record { within = w; sound = subst Sound (sym e) (after_sound (view t) g.sound l) }
+pub stays_sound : (s : Izl) (t : Tables) → 1 ≤ s.tables.left → view t ≡ rule.after (view s.tables) → Sound (view t)
+stays_sound s t l e = subst Sound (sym e) (after_sound (view s.tables) (carried _ s.sound) l)
 
 pub told_handed : (s s' : Izl) (z : Slice) → 1 ≤ s.tables.left → z ≡ rule.choice (view s.tables) → view s'.tables ≡ rule.after (view s.tables) → Handed told s z s'
 told_handed s s' z l a e = record {
@@ -39,10 +39,10 @@ told_handed s s' z l a e = record {
 }
   where
     r : Handed meaning (view s.tables) z (view s'.tables)
-    r = subst (λ (x : State). Handed meaning (view s.tables) z x) (sym e) (subst (λ (y : Slice). Handed meaning (view s.tables) y (rule.after (view s.tables))) (sym a) (handed (view s.tables) (carried s.tables s.good).sound l))
+    r = subst (λ (x : State). Handed meaning (view s.tables) z x) (sym e) (subst (λ (y : Slice). Handed meaning (view s.tables) y (rule.after (view s.tables))) (sym a) (handed (view s.tables) (carried _ s.sound) l))
 
-pub load_good : (t' : Tables) (width len : ℕ) (shares : List ℕ) → Fit width len shares → Within t' → view t' ≡ rule.load width len shares → Good t'
-load_good t' width len shares f w e = record { within = w; sound = subst Sound (sym e) (load_sound width len shares f) }
+pub load_is_sound : (t : Tables) (width len : ℕ) (shares : List ℕ) → Fit width len shares → view t ≡ rule.load width len shares → Sound (view t)
+load_is_sound t width len shares f e = subst Sound (sym e) (load_sound width len shares f)
 
 pub told_loaded : (s s' : Izl) (width len : ℕ) (shares : List ℕ) → Fit width len shares → view s'.tables ≡ rule.load width len shares → Loaded told s width len shares s'
 told_loaded s s' width len shares f e = record
@@ -53,7 +53,7 @@ told_loaded s s' width len shares f e = record
 
 -- the slices of an interval
 pub busy : (s s₁ : Izl) (z : Slice) → Handed told s z s₁ → Busy s z
-busy s s₁ z h wait = ap (λ (y : Slice). seated_cores y.seats) h.chosen ∙ all_seated (view s.tables) (carried s.tables s.good).sound.held (ltb-true 0 (length (view s.tables).waiting) wait)
+busy s s₁ z h wait = ap (λ (y : Slice). seated_cores y.seats) h.chosen ∙ all_seated (view s.tables) (carried _ s.sound).held (ltb-true 0 (length (view s.tables).waiting) wait)
 
 pub serves : (s s₁ : Izl) (width len : ℕ) (shares : List ℕ) → Loaded told s width len shares s₁ → Serves s₁ len shares
 serves s s₁ width len shares l zs s' e = (served told s width len shares zs s' (s₁, l, e), each told Busy busy s₁ zs s' e)

@@ -8,7 +8,7 @@ ghost use Rattle.local.specs.Meaning.{Fit, Loaded, Handed};
 ghost use Rattle.izl.specs.Told.{told};
 ghost use Rattle.izl.specs.Served.{Busy, Serves};
 
-use local::{LocalScheduler, Slice, fits};
+use local::{LocalScheduler, MAX_TASKS, Slice, fits};
 use refusal::LocalFault;
 use tables::Tables;
 
@@ -20,22 +20,24 @@ mod tables;
 
 pub use state::Izl;
 
-// Takes a load that fits.
-fn take_load(s: &mut Izl, width: u8, length: u32, shares: &[u32])
-    requires { Fit width length shares.now }
-    ensures loaded { Loaded told s.old width length shares.now s.new }
-    ensures serves { Serves s.new length shares.now }
-{
-    s.tables.begin(width, length, shares);
-}
+impl Izl {
+    // Takes a load that fits.
+    fn take_load(&mut self, width: u8, length: u32, shares: &[u32])
+        requires { Fit width length shares.now }
+        ensures loaded { Loaded told self.old width length shares.now self.new }
+        ensures serves { Serves self.new length shares.now }
+    {
+        self.tables = Tables::loaded(width, length, shares);
+    }
 
-// Hands out the slice to come.
-fn hand_out(s: &mut Izl) -> Slice
-    requires { 1 ≤ told.left s.old }
-    ensures handed { Handed told s.old result s.new }
-    ensures busy { Busy s.old result }
-{
-    s.tables.step()
+    // Hands out the slice to come.
+    fn hand_out(&mut self) -> Slice
+        requires { 1 ≤ told.left self.old }
+        ensures handed { Handed told self.old result self.new }
+        ensures busy { Busy self.old result }
+    {
+        self.tables.step()
+    }
 }
 
 impl LocalScheduler for Izl {
@@ -51,7 +53,7 @@ impl LocalScheduler for Izl {
 
     fn new() -> Self {
         Izl {
-            tables: Tables::empty(),
+            tables: Tables::default(),
         }
     }
 
@@ -62,7 +64,7 @@ impl LocalScheduler for Izl {
         if !fits(width, length, shares) {
             return Err(LocalFault::Misfit);
         }
-        take_load(self, width, length, shares);
+        self.take_load(width, length, shares);
         Ok(())
     }
 
@@ -73,7 +75,7 @@ impl LocalScheduler for Izl {
         if self.ticks_left() == 0 {
             return Err(LocalFault::Over);
         }
-        Ok(hand_out(self))
+        Ok(self.hand_out())
     }
 
     fn ticks_left(&self) -> u32 {
@@ -81,7 +83,7 @@ impl LocalScheduler for Izl {
     }
 
     fn amount(&self, task: u32) -> u32 {
-        if 1 <= task && task <= 32 {
+        if (1..=MAX_TASKS as u32).contains(&task) {
             self.tables.amount_of(task)
         } else {
             0

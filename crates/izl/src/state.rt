@@ -1,4 +1,5 @@
-ghost use Rattle.izl.specs.View.{Good};
+ghost use Rattle.izl_rule.specs.Invariant.{Sound};
+ghost use Rattle.izl.specs.View.{view};
 
 use crate::tables::Tables;
 
@@ -6,5 +7,5 @@ use crate::tables::Tables;
 #[derive(Drop)]
 pub struct Izl {
     pub(crate) tables: Tables,
-    ghost good: { ∥ Good tables ∥₁ },
+    ghost sound: { ∥ Sound (view tables) ∥₁ },
 }
