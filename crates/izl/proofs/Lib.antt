@@ -3,5 +3,4 @@ pub mod Readying
 pub mod Queueing
 pub mod Beginning
 pub mod Slicing
-pub mod Carried
 pub mod Telling
