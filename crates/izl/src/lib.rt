@@ -96,9 +96,10 @@ mod tests {
     use super::*;
     use std::test::Fail;
 
-    fn next_is(izl: &mut Izl, length: u32, first: u8, second: u8) -> Result<bool, Fail> {
+    // The length of the next slice and the tasks on two cores.
+    fn next_of(izl: &mut Izl) -> Result<(u32, u8, u8), Fail> {
         let slice = izl.next()?;
-        Ok(slice.length == length && slice.seats[0] == first && slice.seats[1] == second)
+        Ok((slice.length, slice.seats[0], slice.seats[1]))
     }
 
     // After a tick task 3 takes over core 2; task 2, put back, takes core 1, whose task has ended.
@@ -107,13 +108,13 @@ mod tests {
         let mut izl = Izl::new();
         assert_eq!(rt; izl.load(2, 6, &[6, 6, 1]), Err(LocalFault::Misfit));
         izl.load(2, 6, &[1, 2, 5])?;
-        assert!(rt; next_is(&mut izl, 1, 1, 2)?);
-        assert!(rt; next_is(&mut izl, 1, 2, 3)?);
+        assert_eq!(rt; next_of(&mut izl)?, (1, 1, 2));
+        assert_eq!(rt; next_of(&mut izl)?, (1, 2, 3));
         assert_eq!(rt; izl.amount(3), 4);
-        assert!(rt; next_is(&mut izl, 4, 0, 3)?);
+        assert_eq!(rt; next_of(&mut izl)?, (4, 0, 3));
         assert_eq!(rt; izl.ticks_left(), 0);
         izl.load(2, 6, &[])?;
-        assert!(rt; next_is(&mut izl, 6, 0, 0)?);
+        assert_eq!(rt; next_of(&mut izl)?, (6, 0, 0));
         Ok(())
     }
 }

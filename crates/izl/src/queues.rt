@@ -4,8 +4,7 @@ ghost use Rattle.std.specs.List.{AllByRecursion};
 ghost use Rattle.arrayvec.specs.ArrayVec.{array_vec_len};
 ghost use Rattle.izl_rule.specs.Rule.{nobody, on, front, lowered, F, G, first_core, leaves, takes, refill, put_back, take_over, passed, passage, settled};
 ghost use Rattle.izl_rule.specs.Invariant.{Held, merged};
-ghost use Rattle.izl.specs.View.{view, kind_by, kind_of, time_by, turned, Can};
-ghost use Rattle.izl.specs.declared.tables.Kind.{Kind};
+ghost use Rattle.izl.specs.View.{view, passage_by, Amount, turned, Can, Passes};
 
 use crate::tables::{Kind, Tables};
 use arrayvec::ArrayVec;
@@ -23,39 +22,21 @@ fn seat(core: u8, waiting: Waiting) -> Running
     }
 }
 
-// Whether the last waiting task has to have a core no later than the first core gets free.
-fn is_due(first: u32, left: u32, last: u32) -> bool
-    ensures { result ≡ nat_le (left - last) first }
+// How long the next passage takes and what happens at its end, by the amounts on the first core and of the last waiting task.
+fn passage_by(first: Option<u32>, last: Option<u32>, left: u32) -> (u32, Kind)
+    ensures { result ≡ passage_by first last left }
 {
-    first >= left.saturating_sub(last)
-}
-
-// What the next passage is, by the amounts on the first core and of the last waiting task.
-fn kind_by(waits: bool, runs: bool, first: u32, left: u32, last: u32) -> Kind
-    ensures { result ≡ kind_by waits runs first left last }
-{
-    if waits {
-        if is_due(first, left, last) {
-            Kind::TakeOver
-        } else {
-            Kind::Refill
+    match (first, last) {
+        (Some(first), Some(last)) => {
+            let due = left.saturating_sub(last);
+            if first >= due {
+                (due, Kind::TakeOver)
+            } else {
+                (first, Kind::Refill)
+            }
         }
-    } else if runs {
-        Kind::Leave
-    } else {
-        Kind::Rest
-    }
-}
-
-// Its time.
-fn time_by(kind: Kind, first: u32, left: u32, last: u32) -> u32
-    ensures { result ≡ time_by kind first left last }
-{
-    match kind {
-        Kind::TakeOver => left.saturating_sub(last),
-        Kind::Refill => first,
-        Kind::Leave => first,
-        Kind::Rest => left,
+        (Some(first), None) => (first, Kind::Leave),
+        (None, _) => (left, Kind::Rest),
     }
 }
 
@@ -112,42 +93,33 @@ fn lower(cores: &mut [Running], ticks: u32)
 
 impl Tables {
     // The amount on the first core of the core queue.
-    fn first_amount(&self) -> u32
-        ensures { result ≡ F (view self.now) }
+    fn first_amount(&self) -> Option<u32>
+        ensures { Amount result (view self.now).running (F (view self.now)) }
     {
-        self.running.first().map_or(0, |core| core.amount)
+        self.running.first().map(|core| core.amount)
     }
 
     // The amount of the last waiting task.
-    fn last_amount(&self) -> u32
-        ensures { result ≡ G (view self.now) }
+    fn last_amount(&self) -> Option<u32>
+        ensures { Amount result (view self.now).waiting (G (view self.now)) }
     {
-        self.waiting.last().map_or(0, |waiting| waiting.amount)
+        self.waiting.last().map(|waiting| waiting.amount)
     }
 
-    // What the next passage is.
-    fn kind(&self) -> Kind
-        ensures { result ≡ kind_of (view self.now) }
+    // How long the next passage takes, and what happens at its end.
+    fn coming(&self) -> (u32, Kind)
+        requires { Held (merged (view self.now)) }
+        ensures { Passes (view self.now) result }
     {
-        kind_by(
-            !self.waiting.is_empty(),
-            !self.running.is_empty(),
-            self.first_amount(),
-            self.left,
-            self.last_amount(),
-        )
+        passage_by(self.first_amount(), self.last_amount(), self.left)
     }
 
-    // Its time.
+    // The time of the next passage.
     pub(crate) fn time(&self) -> u32
+        requires { Held (merged (view self.now)) }
         ensures { result ≡ (passage (view self.now)).0 }
     {
-        time_by(
-            self.kind(),
-            self.first_amount(),
-            self.left,
-            self.last_amount(),
-        )
+        self.coming().0
     }
 
     // Time passes.
@@ -225,8 +197,7 @@ impl Tables {
         requires { Held (merged (view self.old)) }
         ensures { view self.new ≡ (passage (view self.old)).1 }
     {
-        let kind = self.kind();
-        let ticks = self.time();
+        let (ticks, kind) = self.coming();
         self.pass(ticks);
         self.turn(kind);
     }
