@@ -1,62 +1,45 @@
--- A passage by its kind.
-use Rattle.std.proofs.Common.{◌≡◌, ℕ, ◌-◌, ◌<◌, ◌≤◌, Bool, true, false, cond, ltb, leb, ◌⊎◌, length, sym, refl, ◌∙◌, inl, inr, arith}
-use Rattle.std.proofs.lemmas.List.{length-take-le}
-use Rattle.std.proofs.lemmas.Bool.{cond_both, lt-ltb, le-ltb, ltb-true, cases_lt}
-use Rattle.izl_rule.specs.Rule.{State, F, G, waits, runs, take_over, refill, leaves, passed, passage}
+-- The next passage, by the amounts on the first core and of the last waiting task.
+use Rattle.std.proofs.Common.{◌≡◌, ℕ, ◌-◌, ◌<◌, ◌≤◌, false, leb, length, sym, ap, ◌∙◌, subst, arith}
+use Rattle.std.specs.Prelude.{Option, Some, None, MatchOption}
+use Rattle.std.proofs.lemmas.List.{length-map}
+use Rattle.std.proofs.lemmas.Bool.{cond-true, cond-false, cond_both, lt-ltb, le-ltb}
+use Rattle.izl_rule.specs.Rule.{State, F, G, waits, runs, lowered, passed, passage}
 use Rattle.izl_rule.specs.Invariant.{Held, merged}
 use Rattle.izl_rule.proofs.Passing.{some_core}
 use Rattle.izl_rule.proofs.Passages.{line_length, jobs_length}
 use Rattle.izl.specs.declared.tables.Kind.{Kind}
 use Rattle.izl.specs.declared.tables.Kind.TheVariants.{TakeOver, Refill, Leave, Rest}
-use Rattle.izl.specs.declared.tables.Tables.{Tables}
-use Rattle.izl.specs.View.{view, Within, kind_by, kind_of, time_by, turned, Can}
-use Rattle.izl.proofs.Views.{running_length, waiting_length}
+use Rattle.izl.specs.View.{Amount, passage_by, turned, Can, Passes}
 
-abbrev pub time_of : Tables → ℕ
-time_of t = time_by (kind_of t) (F (view t)) t.left (G (view t))
+module _ (s : State) (h : Held (merged s)) where
+  passes_as : (p : ℕ × Kind) → ◌≡◌ {A = ℕ × State} (passage s) (p.0, turned p.1 (passed p.0 s)) → Can p.1 s → Passes s p
+  passes_as p e c = record { time = sym (ap (λ (q : ℕ × State). q.0) e); does = ap (λ (q : ℕ × State). q.1) e; able = c }
 
-by_kind : (s : State) → ◌≡◌ {A = ℕ × State} (passage s) (time_by (kind_by (waits s) (runs s) (F s) s.left (G s)) (F s) s.left (G s), turned (kind_by (waits s) (runs s) (F s) s.left (G s)) (passed (time_by (kind_by (waits s) (runs s) (F s) s.left (G s)) (F s) s.left (G s)) s))
-by_kind s = go (waits s) (leb (s.left - G s) (F s)) (runs s)
+  -- while a task waits all cores are busy, the first of them in the core queue
+  wait : 0 < length s.running → 0 < length s.waiting → Passes s (passage_by (Some (F s)) (Some (G s)) s.left)
+  wait some w =
+      let k : length (merged s).line < length (merged s).jobs = omega (arith, line_length s, jobs_length s) in
+      let e = lt-ltb 0 (length s.waiting) w in
+      cond_both (leb (s.left - G s) (F s)) (s.left - G s, TakeOver) (F s, Refill) (Passes s)
+      (λ d. passes_as (s.left - G s, TakeOver) (cond-true (waits s) _ _ e ∙ cond-true (leb (s.left - G s) (F s)) _ _ d) (some, w, omega (arith, h.full k, h.narrow, line_length s)))
+      (λ d. passes_as (F s, Refill) (cond-true (waits s) _ _ e ∙ cond-false (leb (s.left - G s) (F s)) _ _ d) (some, omega (arith, h.full k, h.narrow, line_length s)))
+
+  none_waits : length s.waiting ≡ 0 → waits s ≡ false
+  none_waits z = le-ltb 0 (length s.waiting) (omega arith)
+
+  pub passes : (first last : Option ℕ) → Amount first s.running (F s) → Amount last s.waiting (G s) → Passes s (passage_by first last s.left)
+  passes (Some f) (Some g) a b = subst (λ (n : ℕ). Passes s (passage_by (Some n) (Some g) s.left)) (sym a.1) (subst (λ (n : ℕ). Passes s (passage_by (Some (F s)) (Some n) s.left)) (sym b.1) (wait a.0 b.0))
+  passes (Some f) None a b = subst (λ (n : ℕ). Passes s (passage_by (Some n) None s.left)) (sym a.1)
+      (passes_as (F s, Leave) (cond-false (waits s) _ _ (none_waits b) ∙ cond-true (runs s) _ _ (lt-ltb 0 (length s.running) a.0)) a.0)
+  passes None (Some g) a b = absurd (omega (arith, some_core (merged s) h (omega (arith, line_length s, jobs_length s)), line_length s))
+  passes None None a b = passes_as (s.left, Rest) (cond-false (waits s) _ _ (none_waits b) ∙ cond-false (runs s) _ _ (le-ltb 0 (length s.running) (omega arith))) tt
+
+-- what can happen can after some time
+pub still : (s : State) (n : ℕ) (k : Kind) (s' : State) → Can k s → s' ≡ passed n s → Can k s'
+still s n k s' c e = subst (Can k) (sym e) (go k c)
   where
-    go : (a b c : Bool) → ◌≡◌ {A = ℕ × State} (cond a (cond b (s.left - G s, take_over (passed (s.left - G s) s)) (F s, refill (passed (F s) s))) (cond c (F s, leaves (passed (F s) s)) (s.left, passed s.left s)))
-        (time_by (cond a (cond b TakeOver Refill) (cond c Leave Rest)) (F s) s.left (G s), turned (cond a (cond b TakeOver Refill) (cond c Leave Rest)) (passed (time_by (cond a (cond b TakeOver Refill) (cond c Leave Rest)) (F s) s.left (G s)) s))
-    go true true c = refl
-    go true false c = refl
-    go false b true = refl
-    go false b false = refl
-
--- tables with the same places can do the same
-pub still : (t t' : Tables) → t.cores ≡ t'.cores → t.first ≡ t'.first → t.end ≡ t'.end → t.out ≡ t'.out → (k : Kind) → Can k t → Can k t'
-still t t' a b c d TakeOver h = (omega (arith, h.0), omega (arith, h.1), omega (arith, h.2))
-still t t' a b c d Refill h = (omega (arith, h.0), omega (arith, h.1))
-still t t' a b c d Leave h = omega arith
-still t t' a b c d Rest h = tt
-
-module _ (t : Tables) (w : Within t) where
-  waits_is : waits (view t) ≡ ltb t.first t.end
-  waits_is = go (cases_lt t.first t.end)
-    where
-      go : (t.first < t.end) ⊎ (t.end ≤ t.first) → waits (view t) ≡ ltb t.first t.end
-      go (inl l) = lt-ltb 0 (length (view t).waiting) (omega (arith, waiting_length t w)) ∙ sym (lt-ltb t.first t.end l)
-      go (inr l) = le-ltb 0 (length (view t).waiting) (omega (arith, waiting_length t w)) ∙ sym (le-ltb t.first t.end l)
-
-  kind_is : kind_by (waits (view t)) (runs (view t)) (F (view t)) t.left (G (view t)) ≡ kind_of t
-  kind_is = λ i. kind_by (waits_is i) (ltb 0 (running_length t w i)) (F (view t)) t.left (G (view t))
-
-  pub passage_is : ◌≡◌ {A = ℕ × State} (passage (view t)) (time_of t, turned (kind_of t) (passed (time_of t) (view t)))
-  passage_is = by_kind (view t) ∙ (λ i. (time_by (kind_is i) (F (view t)) t.left (G (view t)), turned (kind_is i) (passed (time_by (kind_is i) (F (view t)) t.left (G (view t))) (view t))))
-
-  -- while a task waits the core queue has a core, and there is room for one more out of it
-  pub able : Held (merged (view t)) → Can (kind_of t) t
-  able h = cond_both (ltb t.first t.end) (cond (leb (t.left - G (view t)) (F (view t))) TakeOver Refill) (cond (ltb 0 t.cores) Leave Rest) (λ k. Can k t)
-      (λ e. waiting (ltb-true t.first t.end e))
-      (λ _. cond_both (ltb 0 t.cores) Leave Rest (λ k. Can k t) (λ e. ltb-true 0 t.cores e) (λ _. tt))
-    where
-      waiting : t.first < t.end → Can (cond (leb (t.left - G (view t)) (F (view t))) TakeOver Refill) t
-      waiting l =
-          let n = running_length t w in
-          let m = waiting_length t w in
-          let k : length (merged (view t)).line < length (merged (view t)).jobs = omega (arith, line_length (view t), jobs_length (view t)) in
-          let some : 1 ≤ t.cores = omega (arith, some_core (merged (view t)) h k, line_length (view t)) in
-          let room : t.out < 16 = omega (arith, h.full k, h.narrow, line_length (view t), length-take-le t.out t.taken (omega (arith, w.out, w.taken_size))) in
-          cond_both (leb (t.left - G (view t)) (F (view t))) TakeOver Refill (λ k. Can k t) (λ _. (some, l, room)) (λ _. (some, l))
+    go : (k : Kind) → Can k s → Can k (passed n s)
+    go TakeOver c = (omega (arith, c.0, length-map s.running (lowered n)), c.1, omega (arith, c.2, length-map s.taken (lowered n)))
+    go Refill c = (omega (arith, c.0, length-map s.running (lowered n)), omega (arith, c.1, length-map s.running (lowered n)))
+    go Leave c = omega (arith, c, length-map s.running (lowered n))
+    go Rest c = tt

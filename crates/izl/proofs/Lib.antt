@@ -1,9 +1,6 @@
-pub mod Shifts
-pub mod Views
 pub mod ByKind
 pub mod Readying
 pub mod Queueing
 pub mod Beginning
 pub mod Slicing
-pub mod Carried
 pub mod Telling

@@ -1,46 +1,25 @@
 -- The tables as a state of the rule, and a passage by its kind.
-use Rattle.std.specs.Prelude.{◌≡◌, ℕ, ◌-◌, ◌<◌, ◌≤◌, Bool, cond, List, [], ◌∷◌, length, take, drop, nat_le, nat_lt, slice_set}
+use Rattle.std.specs.Prelude.{◌≡◌, ℕ, ◌-◌, ◌<◌, ◌≤◌, cond, List, [], ◌∷◌, length, nat_le, slice_set, Option, Some, None, MatchOption}
 use Rattle.izl_rule.specs.declared.Running.{Running}
-use Rattle.izl_rule.specs.Rule.{State, F, G, take_over, refill, leaves}
-use Rattle.izl_rule.specs.Invariant.{Sound}
+use Rattle.izl_rule.specs.Rule.{State, take_over, refill, leaves, passed, passage}
 use Rattle.izl.specs.declared.tables.Tables.{Tables}
 use Rattle.izl.specs.declared.tables.Kind.{Kind}
 use Rattle.izl.specs.declared.tables.Kind.TheVariants.{TakeOver, Refill, Leave, Rest}
 
 abbrev pub view : Tables → State
-view t = record { width = t.width; left = t.left; running = take t.cores t.running; waiting = drop t.first (take t.end t.waiting); taken = take t.out t.taken }
+view t = record { width = t.width; left = t.left; running = t.running.items; waiting = t.waiting.items; taken = t.taken.items }
 
--- Each queue lies within its table. In front of the waiting queue there is room for the tasks on cores.
-pub record Within (t : Tables) : Type 0 where
-  pub cores : t.cores ≤ 16
-  pub room : t.cores ≤ t.first
-  pub first : t.first ≤ t.end
-  pub end : t.end ≤ 32
-  pub out : t.out ≤ 16
-  pub running_size : length t.running ≡ 16
-  pub waiting_size : length t.waiting ≡ 32
-  pub taken_size : length t.taken ≡ 16
+-- How long the next passage takes and what happens at its end, by the amounts on the first core and of the last waiting task, if there are such, and R.
+abbrev pub passage_by : Option ℕ → Option ℕ → ℕ → ℕ × Kind
+passage_by (Some f) (Some g) r = cond (nat_le (r - g) f) (r - g, TakeOver) (f, Refill)
+passage_by (Some f) None r = (f, Leave)
+passage_by None g r = (r, Rest)
 
--- what the tables keep between calls
-pub record Good (t : Tables) : Type 0 where
-  pub within : Within t
-  pub sound : Sound (view t)
+-- an amount n of one of a queue, or none where the queue is empty
+abbrev pub Amount : Option ℕ → {X : Type 0} → List X → ℕ → Type 0
+Amount a xs n = MatchOption a (length xs ≡ 0) (λ m. (0 < length xs) × (m ≡ n))
 
--- the kind of the next passage: by whether a task waits and a core runs, F, R and G
-abbrev pub kind_by : Bool → Bool → ℕ → ℕ → ℕ → Kind
-kind_by wait run f r g = cond wait (cond (nat_le (r - g) f) TakeOver Refill) (cond run Leave Rest)
-
-abbrev pub kind_of : Tables → Kind
-kind_of t = kind_by (nat_lt t.first t.end) (nat_lt 0 t.cores) (F (view t)) t.left (G (view t))
-
--- its time, by F, R and G
-abbrev pub time_by : Kind → ℕ → ℕ → ℕ → ℕ
-time_by TakeOver f r g = r - g
-time_by Refill f r g = f
-time_by Leave f r g = f
-time_by Rest f r g = r
-
--- what happens to the queues then
+-- what happens to the queues at its end
 abbrev pub turned : Kind → State → State
 turned TakeOver s = take_over s
 turned Refill s = refill s
@@ -48,11 +27,17 @@ turned Leave s = leaves s
 turned Rest s = s
 
 -- what that needs
-abbrev pub Can : Kind → Tables → Type 0
-Can TakeOver t = (1 ≤ t.cores) × (t.first < t.end) × (t.out < 16)
-Can Refill t = (1 ≤ t.cores) × (t.first < t.end)
-Can Leave t = 1 ≤ t.cores
-Can Rest t = Unit {0}
+abbrev pub Can : Kind → State → Type 0
+Can TakeOver s = (1 ≤ length s.running) × (1 ≤ length s.waiting) × (length s.taken < 16)
+Can Refill s = (1 ≤ length s.running) × (length s.running ≤ 16)
+Can Leave s = 1 ≤ length s.running
+Can Rest s = Unit {0}
+
+-- the next passage takes the time p.0, and p.1 happens at its end
+pub record Passes (s : State) (p : ℕ × Kind) : Type 0 where
+  pub time : p.0 ≡ (passage s).0
+  pub does : (passage s).1 ≡ turned p.1 (passed p.0 s)
+  pub able : Can p.1 s
 
 -- the tasks of cores written over seats, from the last to the first
 abbrev pub seated_over : List ℕ → List Running → List ℕ

@@ -8,7 +8,7 @@ ghost use Rattle.local.specs.Meaning.{Fit, Loaded, Handed};
 ghost use Rattle.izl.specs.Told.{told};
 ghost use Rattle.izl.specs.Served.{Busy, Serves};
 
-use local::{LocalScheduler, Slice, fits};
+use local::{LocalScheduler, MAX_TASKS, Slice, fits};
 use refusal::LocalFault;
 use tables::Tables;
 
@@ -20,22 +20,24 @@ mod tables;
 
 pub use state::Izl;
 
-// Takes a load that fits.
-fn take_load(s: &mut Izl, width: u8, length: u32, shares: &[u32])
-    requires { Fit width length shares.now }
-    ensures loaded { Loaded told s.old width length shares.now s.new }
-    ensures serves { Serves s.new length shares.now }
-{
-    s.tables.begin(width, length, shares);
-}
+impl Izl {
+    // Takes a load that fits.
+    fn take_load(&mut self, width: u8, length: u32, shares: &[u32])
+        requires { Fit width length shares.now }
+        ensures loaded { Loaded told self.old width length shares.now self.new }
+        ensures serves { Serves self.new length shares.now }
+    {
+        self.tables = Tables::loaded(width, length, shares);
+    }
 
-// Hands out the slice to come.
-fn hand_out(s: &mut Izl) -> Slice
-    requires { 1 ≤ told.left s.old }
-    ensures handed { Handed told s.old result s.new }
-    ensures busy { Busy s.old result }
-{
-    s.tables.step()
+    // Hands out the slice to come.
+    fn hand_out(&mut self) -> Slice
+        requires { 1 ≤ told.left self.old }
+        ensures handed { Handed told self.old result self.new }
+        ensures busy { Busy self.old result }
+    {
+        self.tables.step()
+    }
 }
 
 impl LocalScheduler for Izl {
@@ -47,7 +49,7 @@ impl LocalScheduler for Izl {
 
     fn new() -> Self {
         Izl {
-            tables: Tables::empty(),
+            tables: Tables::default(),
         }
     }
 
@@ -58,7 +60,7 @@ impl LocalScheduler for Izl {
         if !fits(width, length, shares) {
             return Err(LocalFault::Misfit);
         }
-        take_load(self, width, length, shares);
+        self.take_load(width, length, shares);
         Ok(())
     }
 
@@ -69,7 +71,7 @@ impl LocalScheduler for Izl {
         if self.ticks_left() == 0 {
             return Err(LocalFault::Over);
         }
-        Ok(hand_out(self))
+        Ok(self.hand_out())
     }
 
     fn ticks_left(&self) -> u32 {
@@ -77,7 +79,7 @@ impl LocalScheduler for Izl {
     }
 
     fn amount(&self, task: u32) -> u32 {
-        if 1 <= task && task <= 32 {
+        if (1..=MAX_TASKS as u32).contains(&task) {
             self.tables.amount_of(task)
         } else {
             0
@@ -90,9 +92,10 @@ mod tests {
     use super::*;
     use std::test::Fail;
 
-    fn next_is(izl: &mut Izl, length: u32, first: u8, second: u8) -> Result<bool, Fail> {
+    // The length of the next slice and the tasks on two cores.
+    fn next_of(izl: &mut Izl) -> Result<(u32, u8, u8), Fail> {
         let slice = izl.next()?;
-        Ok(slice.length == length && slice.seats[0] == first && slice.seats[1] == second)
+        Ok((slice.length, slice.seats[0], slice.seats[1]))
     }
 
     // After a tick task 3 takes over core 2; task 2, put back, takes core 1, whose task has ended.
@@ -101,13 +104,13 @@ mod tests {
         let mut izl = Izl::new();
         assert_eq!(rt; izl.load(2, 6, &[6, 6, 1]), Err(LocalFault::Misfit));
         izl.load(2, 6, &[1, 2, 5])?;
-        assert!(rt; next_is(&mut izl, 1, 1, 2)?);
-        assert!(rt; next_is(&mut izl, 1, 2, 3)?);
+        assert_eq!(rt; next_of(&mut izl)?, (1, 1, 2));
+        assert_eq!(rt; next_of(&mut izl)?, (1, 2, 3));
         assert_eq!(rt; izl.amount(3), 4);
-        assert!(rt; next_is(&mut izl, 4, 0, 3)?);
+        assert_eq!(rt; next_of(&mut izl)?, (4, 0, 3));
         assert_eq!(rt; izl.ticks_left(), 0);
         izl.load(2, 6, &[])?;
-        assert!(rt; next_is(&mut izl, 6, 0, 0)?);
+        assert_eq!(rt; next_of(&mut izl)?, (6, 0, 0));
         Ok(())
     }
 }

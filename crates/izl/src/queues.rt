@@ -1,13 +1,15 @@
 // The core queue and the waiting queue, passage by passage.
-ghost use Rattle.std.specs.Prelude.{◌≡◌, ◌+◌, ◌-◌, ◌<◌, ◌≤◌, ◌++◌, map, length, take, drop, nat_eq, nat_le, slice_index_or, slice_set};
+ghost use Rattle.std.specs.Prelude.{◌≡◌, ◌+◌, ◌-◌, ◌<◌, ◌≤◌, [], ◌∷◌, ◌++◌, map, length, nat_eq, nat_le, slice_index_or};
 ghost use Rattle.std.specs.List.{AllByRecursion};
-ghost use Rattle.izl_rule.specs.Rule.{nobody, on, lowered, F, G, leaves, takes, refill, take_over, passed, passage, settled};
+ghost use Rattle.arrayvec.specs.ArrayVec.{array_vec_len};
+ghost use Rattle.izl_rule.specs.Rule.{nobody, on, front, lowered, F, G, first_core, leaves, takes, refill, put_back, take_over, passed, passage, settled};
 ghost use Rattle.izl_rule.specs.Invariant.{Held, merged};
-ghost use Rattle.izl.specs.View.{view, Within, kind_by, kind_of, time_by, turned, Can};
-ghost use Rattle.izl.specs.declared.tables.Kind.{Kind};
+ghost use Rattle.izl.specs.View.{view, passage_by, Amount, turned, Can, Passes};
 
 use crate::tables::{Kind, Tables};
+use arrayvec::ArrayVec;
 use izl_rule::{Running, Waiting};
+use local::MAX_TASKS;
 
 // A core with a task from the waiting queue.
 fn seat(core: u8, waiting: Waiting) -> Running
@@ -20,39 +22,21 @@ fn seat(core: u8, waiting: Waiting) -> Running
     }
 }
 
-// Whether the last waiting task has to have a core no later than the first core gets free.
-fn is_due(first: u32, left: u32, last: u32) -> bool
-    ensures { result ≡ nat_le (left - last) first }
+// How long the next passage takes and what happens at its end, by the amounts on the first core and of the last waiting task.
+fn passage_by(first: Option<u32>, last: Option<u32>, left: u32) -> (u32, Kind)
+    ensures { result ≡ passage_by first last left }
 {
-    first >= left.saturating_sub(last)
-}
-
-// What the next passage is, by the amounts on the first core and of the last waiting task.
-fn kind_by(waits: bool, runs: bool, first: u32, left: u32, last: u32) -> Kind
-    ensures { result ≡ kind_by waits runs first left last }
-{
-    if waits {
-        if is_due(first, left, last) {
-            Kind::TakeOver
-        } else {
-            Kind::Refill
+    match (first, last) {
+        (Some(first), Some(last)) => {
+            let due = left.saturating_sub(last);
+            if first >= due {
+                (due, Kind::TakeOver)
+            } else {
+                (first, Kind::Refill)
+            }
         }
-    } else if runs {
-        Kind::Leave
-    } else {
-        Kind::Rest
-    }
-}
-
-// Its time.
-fn time_by(kind: Kind, first: u32, left: u32, last: u32) -> u32
-    ensures { result ≡ time_by kind first left last }
-{
-    match kind {
-        Kind::TakeOver => left.saturating_sub(last),
-        Kind::Refill => first,
-        Kind::Leave => first,
-        Kind::Rest => left,
+        (Some(first), None) => (first, Kind::Leave),
+        (None, _) => (left, Kind::Rest),
     }
 }
 
@@ -63,204 +47,171 @@ fn has_ended(last: Running) -> bool
     last.amount == 0
 }
 
-// The last of a core queue.
-fn last_core(queue: &[Running], cores: usize) -> Running
-    requires { (1 ≤ cores) × (cores ≤ length queue.now) }
-    ensures { result ≡ slice_index_or queue.now (cores - 1) nobody }
+// The task of a core goes to the head of the waiting queue, unless it has ended.
+fn put_back(queue: &mut ArrayVec<Waiting, MAX_TASKS>, last: Running)
+    requires { array_vec_len queue.old < 32 }
+    ensures { queue.new.items ≡ put_back last queue.old.items }
 {
-    queue[cores - 1]
+    if !has_ended(last) {
+        queue.insert(
+            0,
+            Waiting {
+                amount: last.amount,
+                task: last.task,
+            },
+        );
+    }
+}
+
+// The last of a queue leaves it.
+fn leave_last<T: Default + Drop, const N: usize>(queue: &mut ArrayVec<T, N>) -> T
+    requires { 1 ≤ array_vec_len queue.old }
+    ensures last { result ≡ slice_index_or queue.old.items (length queue.old.items - 1) result }
+    ensures others { queue.new.items ≡ front queue.old.items }
+    ensures room { array_vec_len queue.new < N }
+{
+    queue.remove(queue.len() - 1)
 }
 
 // One joins the end of a core queue.
-fn join(queue: &mut [Running], cores: usize, core: Running)
-    requires { cores < length queue.old }
-    ensures { queue.new ≡ slice_set queue.old cores core }
+fn join(queue: &mut ArrayVec<Running, 16>, core: Running)
+    requires { array_vec_len queue.old < 16 }
+    ensures { queue.new.items ≡ queue.old.items ++ (core ∷ []) }
 {
-    queue[cores] = core;
+    queue.push(core);
 }
 
-// The first of a core queue leaves it.
-fn leave_first(queue: &mut [Running], cores: usize)
-    requires { (cores ≤ length queue.old) × (1 ≤ cores) }
-    ensures { take (cores - 1) queue.new ≡ drop 1 (take cores queue.old) }
+// Time passes for cores.
+fn lower(cores: &mut [Running], ticks: u32)
+    requires { AllByRecursion (λ r. ticks ≤ r.amount) cores.old }
+    ensures { cores.new ≡ map (lowered ticks) cores.old }
 {
-    queue[..cores].rotate_left(1);
-}
-
-// Time passes for the first cores of a table.
-fn lower(table: &mut [Running], cores: usize, ticks: u32)
-    requires { (cores ≤ length table.old) × (AllByRecursion (λ r. ticks ≤ r.amount) (take cores table.old)) }
-    ensures { table.new ≡ map (lowered ticks) (take cores table.old) ++ drop cores table.old }
-{
-    for i in 0..cores {
-        table[i].amount -= ticks;
+    for core in cores.iter_mut() {
+        core.amount -= ticks;
     }
 }
 
 impl Tables {
     // The amount on the first core of the core queue.
-    fn first_amount(&self) -> u32
-        requires { Within self.now }
-        ensures { result ≡ F (view self.now) }
+    fn first_amount(&self) -> Option<u32>
+        ensures { Amount result (view self.now).running (F (view self.now)) }
     {
-        if self.cores > 0 {
-            self.running[0].amount
-        } else {
-            0
-        }
+        self.running.first().map(|core| core.amount)
     }
 
     // The amount of the last waiting task.
-    fn last_amount(&self) -> u32
-        requires { Within self.now }
-        ensures { result ≡ G (view self.now) }
+    fn last_amount(&self) -> Option<u32>
+        ensures { Amount result (view self.now).waiting (G (view self.now)) }
     {
-        if self.first < self.end {
-            self.waiting[self.end - 1].amount
-        } else {
-            0
-        }
+        self.waiting.last().map(|waiting| waiting.amount)
     }
 
-    // What the next passage is.
-    fn kind(&self) -> Kind
-        requires { Within self.now }
-        ensures { result ≡ kind_of self.now }
+    // How long the next passage takes, and what happens at its end.
+    fn coming(&self) -> (u32, Kind)
+        requires { Held (merged (view self.now)) }
+        ensures { Passes (view self.now) result }
     {
-        kind_by(
-            self.first < self.end,
-            0 < self.cores,
-            self.first_amount(),
-            self.left,
-            self.last_amount(),
-        )
+        passage_by(self.first_amount(), self.last_amount(), self.left)
     }
 
-    // Its time.
+    // The time of the next passage.
     pub(crate) fn time(&self) -> u32
-        requires { Within self.now }
+        requires { Held (merged (view self.now)) }
         ensures { result ≡ (passage (view self.now)).0 }
     {
-        time_by(
-            self.kind(),
-            self.first_amount(),
-            self.left,
-            self.last_amount(),
-        )
+        self.coming().0
     }
 
     // Time passes.
     fn pass(&mut self, ticks: u32)
-        requires { (Within self.old) × ((ticks ≤ self.old.left) × ((AllByRecursion (λ r. ticks ≤ r.amount) (view self.old).running) × (AllByRecursion (λ r. ticks ≤ r.amount) (view self.old).taken))) }
-        ensures does { view self.new ≡ passed ticks (view self.old) }
-        ensures within { Within self.new }
-        ensures able { (kind : Kind) → Can kind self.old → Can kind self.new }
+        requires left { ticks ≤ self.old.left }
+        requires running { AllByRecursion (λ r. ticks ≤ r.amount) (view self.old).running }
+        requires taken { AllByRecursion (λ r. ticks ≤ r.amount) (view self.old).taken }
+        ensures { view self.new ≡ passed ticks (view self.old) }
     {
         self.left -= ticks;
-        lower(&mut self.running, self.cores, ticks);
-        lower(&mut self.taken, self.out, ticks);
+        lower(self.running.as_mut_slice(), ticks);
+        lower(self.taken.as_mut_slice(), ticks);
     }
 
     // The first core leaves the core queue.
-    fn leave(&mut self)
-        requires { (Within self.old) × (1 ≤ self.old.cores) }
+    fn leave(&mut self) -> Running
+        requires { 1 ≤ length (view self.old).running }
+        ensures first { result ≡ first_core (view self.old) }
         ensures does { view self.new ≡ leaves (view self.old) }
-        ensures within { Within self.new }
-        ensures fits { self.new.cores < 16 }
     {
-        leave_first(&mut self.running, self.cores);
-        self.cores -= 1;
+        self.running.remove(0)
     }
 
     // A core takes the first waiting task and joins the end of the core queue.
     pub(crate) fn take_first(&mut self, core: u8)
-        requires { (Within self.old) × (self.old.cores < 16) }
+        requires { length (view self.old).running < 16 }
         ensures does { view self.new ≡ takes core (view self.old) }
-        ensures within { Within self.new }
-        ensures fits { self.new.cores ≤ self.old.cores + 1 }
+        ensures fits { length (view self.new).running ≤ length (view self.old).running + 1 }
     {
-        if self.first < self.end {
-            join(
-                &mut self.running,
-                self.cores,
-                seat(core, self.waiting[self.first]),
-            );
-            self.cores += 1;
-            self.first += 1;
+        if let Some(waiting) = self.waiting.pop_at(0) {
+            join(&mut self.running, seat(core, waiting));
         }
     }
 
     // The first core takes the first waiting task and goes to the end of the core queue.
     fn refill(&mut self)
-        requires { (Within self.old) × (1 ≤ self.old.cores) }
-        ensures does { view self.new ≡ refill (view self.old) }
-        ensures within { Within self.new }
+        requires runs { 1 ≤ length (view self.old).running }
+        requires fits { length (view self.old).running ≤ 16 }
+        ensures { view self.new ≡ refill (view self.old) }
     {
-        let core = self.running[0].core;
-        self.leave();
-        self.take_first(core);
+        let first = self.leave();
+        self.take_first(first.core);
     }
 
     // The last core leaves the core queue, its task is put back, and the last waiting task takes that core.
     fn take_over(&mut self)
-        requires { (Within self.old) × ((1 ≤ self.old.cores) × ((self.old.first < self.old.end) × (self.old.out < 16))) }
-        ensures does { view self.new ≡ take_over (view self.old) }
-        ensures within { Within self.new }
+        requires runs { 1 ≤ length (view self.old).running }
+        requires waits { 1 ≤ length (view self.old).waiting }
+        requires room { length (view self.old).taken < 16 }
+        ensures { view self.new ≡ take_over (view self.old) }
     {
-        let last = last_core(&self.running, self.cores);
-        self.cores -= 1;
-        self.end -= 1;
-        join(
-            &mut self.taken,
-            self.out,
-            seat(last.core, self.waiting[self.end]),
-        );
-        self.out += 1;
-        if !has_ended(last) {
-            self.first -= 1;
-            self.waiting[self.first] = Waiting {
-                amount: last.amount,
-                task: last.task,
-            };
-        }
+        let last = leave_last(&mut self.running);
+        let urgent = leave_last(&mut self.waiting);
+        put_back(&mut self.waiting, last);
+        join(&mut self.taken, seat(last.core, urgent));
     }
 
     // What happens at the end of a passage.
     fn turn(&mut self, kind: Kind)
-        requires { (Within self.old) × (Can kind self.old) }
-        ensures does { view self.new ≡ turned kind (view self.old) }
-        ensures within { Within self.new }
+        requires { Can kind (view self.old) }
+        ensures { view self.new ≡ turned kind (view self.old) }
     {
         match kind {
             Kind::TakeOver => self.take_over(),
             Kind::Refill => self.refill(),
-            Kind::Leave => self.leave(),
+            Kind::Leave => {
+                self.leave();
+            }
             Kind::Rest => {}
         }
     }
 
     // One passage.
     pub(crate) fn advance(&mut self)
-        requires { (Within self.old) × (Held (merged (view self.old))) }
-        ensures does { view self.new ≡ (passage (view self.old)).1 }
-        ensures within { Within self.new }
+        requires { Held (merged (view self.old)) }
+        ensures { view self.new ≡ (passage (view self.old)).1 }
     {
-        let kind = self.kind();
-        let ticks = self.time();
+        let (ticks, kind) = self.coming();
         self.pass(ticks);
         self.turn(kind);
     }
 
     // Passages of no time, until one takes time: each leaves fewer tasks in the queues.
     pub(crate) fn settle(&mut self)
-        requires { (Within self.old) × (Held (merged (view self.old))) }
-        ensures does { view self.new ≡ settled (view self.old) }
-        ensures within { Within self.new }
+        requires { Held (merged (view self.old)) }
+        ensures { view self.new ≡ settled (view self.old) }
     {
-        let mut tasks = self.cores + (self.end - self.first);
-        while tasks > 0 && self.time() == 0 {
+        for _ in 0..self.running.len() + self.waiting.len() {
+            if self.time() != 0 {
+                break;
+            }
             self.advance();
-            tasks -= 1;
         }
     }
 }

@@ -11,5 +11,4 @@ pub mod Handing
 pub mod Ordering
 pub mod Filling
 pub mod Loading
-pub mod Props
 pub mod Times

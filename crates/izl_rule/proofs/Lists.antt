@@ -2,7 +2,7 @@
 use Rattle.std.proofs.Common.{◌≡◌, ℕ, zero, suc, ◌+◌, ◌-◌, ◌*◌, ◌<◌, ◌≤◌, Bool, true, false, cond, eqb, List, [], ◌∷◌, ◌++◌, map, length, get_or, take, drop, sum_by, count_by, sym, refl, ap, ◌∙◌, le_of_suc-le-suc, add-mul, arith}
 use Rattle.std.specs.List.{remove, AllByRecursion}
 use Rattle.std.proofs.lemmas.List.{take_all, length_push}
-use Rattle.std.proofs.lemmas.List.Sums.{sum_by_more, sum_by-cons, sum_by_push, sum_by-append, sum_by-drop_more, sum_by-take-drop}
+use Rattle.std.proofs.lemmas.List.Sums.{sum_by_more, sum_by-cons, sum_by_push, sum_by-append, sum_by-remove}
 use Rattle.std.proofs.ByRecursion.{All-append, All-take, All-drop}
 use Rattle.izl_rule.specs.declared.Running.{Running}
 use Rattle.izl_rule.specs.Rule as rule
@@ -60,22 +60,16 @@ pub many_rest : (p : ℕ → Bool) (js : List Job) → many p (drop 1 js) ≤ ma
 many_rest p [] = omega arith
 many_rest p (j ∷ js) = omega (arith, sum_by-cons (λ (j : Job). cond (p j.task) 1 0) j js)
 
--- a job that goes from place n, and the others
-pub sum_by_removed : (f : Job → ℕ) (js : List Job) (n : ℕ) → n < length js → sum_by f (remove js n) + f (get_or js n nothing) ≡ sum_by f js
-sum_by_removed f js n l =
-    let e : suc n ≡ n + 1 = omega arith in
-    let d : sum_by f (drop (suc n) js) ≡ sum_by f (drop (n + 1) js) = ap (λ (k : ℕ). sum_by f (drop k js)) e in
-    omega (arith, d, sum_by-append f (take n js) (drop (suc n) js), sum_by-drop_more f js n nothing l, sum_by-take-drop f js n)
-
+-- a job that goes from place n
 pub held_removed : (p : ℕ → Bool) (js : List Job) (n : ℕ) → n < length js → (get_or js n nothing).amount ≡ 0 → held p (remove js n) ≡ held p js
-held_removed p js n l e = omega (arith, sum_by_removed (λ (j : Job). cond (p j.task) j.amount 0) js n l, none (p (get_or js n nothing).task))
+held_removed p js n l e = omega (arith, sum_by-remove (λ (j : Job). cond (p j.task) j.amount 0) js n nothing l, none (p (get_or js n nothing).task))
   where
     none : (b : Bool) → cond b (get_or js n nothing).amount 0 ≡ 0
     none true = e
     none false = refl
 
 pub many_removed : (p : ℕ → Bool) (js : List Job) (n : ℕ) → n < length js → many p (remove js n) ≤ many p js
-many_removed p js n l = omega (arith, sum_by_removed (λ (j : Job). cond (p j.task) 1 0) js n l)
+many_removed p js n l = omega (arith, sum_by-remove (λ (j : Job). cond (p j.task) 1 0) js n nothing l)
 
 module _ (p : ℕ → Bool) (m : ℕ) where
   one_le : (b : Bool) (a h c : ℕ) → a ≤ m → h ≤ c * m → cond b a 0 + h ≤ (cond b 1 0 + c) * m

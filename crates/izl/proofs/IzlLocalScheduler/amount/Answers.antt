@@ -1,5 +1,6 @@
-use Rattle.izl.proofs.Carried.{carried}
+use Rattle.izl_rule.proofs.Handing.{amount_fits}
+use Rattle.izl.specs.View.{view}
 use Rattle.izl.proofs.IzlLocalScheduler.amount.Goals as goal
 
 pub amount_of-requires : goal.amount_of-requires
-amount_of-requires c = let g = carried c.args.self.now.tables c.args.self.now.good in (g.within, g.sound.held)
+amount_of-requires c = amount_fits (view c.self.inside.tables) c.self.invariant.held c.args.task

@@ -1,22 +1,12 @@
-use Rattle.std.proofs.Common.{◌≡◌, ℕ, ◌-◌, ◌<◌, length, drop, sym, ap, ◌∙◌, arith}
-use Rattle.std.proofs.lemmas.List.{drop_all}
-use Rattle.std.proofs.ByRecursion.{All-get_or}
-use Rattle.izl_rule.specs.declared.Running.{Running}
-use Rattle.izl_rule.specs.Rule.{nobody}
+use Rattle.std.proofs.Common.{reverse, ap, ◌∙◌}
+use Rattle.std.proofs.lemmas.List.{reverse-reverse}
+use Rattle.std.proofs.lemmas.Iterator.Adapters.{YieldsList-from_rev_slice}
+use Rattle.std.proofs.lemmas.Iterator.Consumers.{YieldsList-end}
 use Rattle.izl.specs.View.{seated_over}
-use Rattle.izl.proofs.Slicing.{one_more}
 use Rattle.izl.proofs.slices.seat_all.Goals as goal
-
-pub loop-i-init : goal.loop-i-init
-loop-i-init c = sym (ap (seated_over c.args.seats.now) (drop_all (length c.args.cores.now) c.args.cores.now (omega arith)))
-
-pub bounds-seats-cores : goal.bounds-seats-cores
-bounds-seats-cores c = All-get_or (λ (r : Running). r.core < 16) c.args.cores.now (c.loop-i.i - 1) nobody (omega (arith, c.loop-i.auto.i, c.loop-i-test.true)) c.requires
-
-pub loop-i-preserved : goal.loop-i-preserved
-loop-i-preserved c = one_more c.args.seats.now c.loop-i.seats c.args.cores.now c.loop-i.i c.loop-i-test.true c.loop-i.auto.i c.loop-i.invariant
 
 pub returns : goal.returns
 returns c =
-    let z : c.loop-i.i ≡ 0 = omega (arith, c.loop-i-test.false) in
-    c.loop-i.invariant ∙ ap (λ (k : ℕ). seated_over c.args.seats.now (drop k c.args.cores.now)) z
+    let whole = ap (λ s. s.iter.rest.now) c.into_iter-core-iterator.ensures.into_iter_gives ∙ ap (λ s. s.rest.now) c.rev-core-items.ensures.source ∙ c.iter.ensures.rest in
+    let all = YieldsList-end (YieldsList-from_rev_slice c.args.cores.now whole) c.loop-core.yielded _ c.loop-core.yielded_by _ _ c.in-None.is c.next.ensures.steps in
+    c.loop-core.invariant ∙ ap (seated_over c.args.seats.now) (ap reverse all.0 ∙ reverse-reverse c.args.cores.now)

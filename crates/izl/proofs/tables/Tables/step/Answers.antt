@@ -7,11 +7,10 @@ use Rattle.local.proofs.Slices.{slice_same}
 use Rattle.izl.proofs.tables.Tables.step.Goals as goal
 
 pub settle-requires : goal.settle-requires
-settle-requires c = (c.advance.ensures.within, subst (λ (s : State). Held (merged s)) (sym c.advance.ensures.does) (a_passage (view c.args.self.now) c.requires.1).held)
+settle-requires c = subst (λ (s : State). Held (merged s)) (sym c.advance.ensures) (a_passage (view c.args.self.now) c.requires).held
 
 pub returns : goal.returns
 returns c = record {
   chosen = slice_same _ _ (c.new-slice.ensures.fields.0 ∙ c.time.ensures) (c.new-slice.ensures.fields.1 ∙ c.seats.ensures);
-  does = c.settle.ensures.does ∙ ap settled c.advance.ensures.does;
-  within = c.settle.ensures.within;
+  does = c.settle.ensures ∙ ap settled c.advance.ensures;
 }
