@@ -1,5 +1,5 @@
 -- A slice that begins in the first frame of a run ends in it, and there is one while that frame is not over.
-use Rattle.std.proofs.Common.{◌≡◌, ℕ, suc, ◌+◌, ◌*◌, ◌^◌, ◌<◌, ◌≤◌, List, [], ◌∷◌, ◌++◌, length, Err, ap, ◌∙◌, ⊎_elim, arith}
+use Rattle.std.proofs.Common.{◌≡◌, ℕ, suc, ◌+◌, ◌*◌, ◌^◌, ◌<◌, ◌≤◌, List, [], ◌∷◌, ◌++◌, length, Ok, Err, Result, IsOk, ap, ◌∙◌, ⊎_elim, arith, rules}
 use native.Mathlib.Nat as law
 use Rattle.std.proofs.lemmas.List.{get_or_past, length_push}
 use Rattle.std.proofs.lemmas.Bool.{cases_lt}
@@ -27,7 +27,7 @@ begins_within card h k f =
     (λ (in_it : k ≤ n). omega (arith, m.end, below (begins card h) n m.rise k n in_it (law.le_refl n)))
     (cases_lt n k)
 
-module _ {S : Type 0} (m : Local S) (card : Card) (sheet : Sheet) (s : S) (number h : ℕ) (frame : Frame card h) where
+module _ {S : Type 0} {m : Local S} {card : Card} {sheet : Sheet} {s : S} {number h : ℕ} (frame : Frame card h) where
   pub same_frame : {calls : List Call} (p : Promise m card sheet s number calls) → p.h ≡ h
   same_frame p = frame_one card p.h h p.frame frame
 
@@ -45,8 +45,9 @@ module _ {S : Type 0} (m : Local S) (card : Card) (sheet : Sheet) (s : S) (numbe
             (cases_lt f 1),
       )
 
-  pub not_refused : {calls : List Call} (e : DispatchFault) → number < 2 ^ 32 → Promise m card sheet s number (next_slice (Err e) ∷ calls) → ticks (handed calls) < h → ⊥
-  not_refused {calls} e early p l =
+  pub hands_out : {calls : List Call} (r : Result Stamped DispatchFault) → number < 2 ^ 32 → Promise m card sheet s number (next_slice r ∷ calls) → ticks (handed calls) < h → IsOk r
+  hands_out (Ok z) early p l = search rules
+  hands_out {calls} (Err e) early p l =
       let same = same_frame p in
       let room : suc number * p.h ≤ 2 ^ 32 * p.h = law.mul-le-mul_right p.h early in
-      p.told.0.0 (omega (arith, room, law.suc-mul number p.h, same, l))
+      absurd (p.told.0.0 (omega (arith, room, law.suc-mul number p.h, same, l)))

@@ -25,7 +25,7 @@ pub record FrameOf {S : Type 0} (m : Local S) (card : Card) (sheet : Sheet) (s :
 -- a refusal is the plan's own; want of memory tells nothing of the plan
 abbrev pub Told : Card → Sheet → FrameFault → Type 0
 Told card sheet (Refused e) = sheet_told e ≡ numbered (judged card sheet)
-Told card sheet Memory = Unit {0}
+Told card sheet (Memory _) = Unit {0}
 
 -- the frame length of a card, which is short
 pub record HasFrame (card : Card) (h : ℕ) : Type 0 where

@@ -1,13 +1,12 @@
 // One frame of a plan as values: its slices and its tally.
 #![tactic(auto)]
 
-ghost use Rattle.std.specs.Prelude.{◌≡◌, ◌≤◌, MatchResult};
+ghost use Rattle.std.specs.Prelude.{◌≡◌, MatchResult, alloc_error};
 ghost use Rattle.card.specs.Verdicts.{fine};
-ghost use Rattle.frames.specs.Frames.{FrameOf, HasFrame};
+ghost use Rattle.frames.specs.Frames.{FrameOf, HasFrame, Told};
 ghost use Rattle.frames.specs.declared.FrameFault.TheVariants.{Memory, Refused as RefusedFault};
 ghost use Rattle.refusal.specs.Table.{numbered, sheet_told};
 ghost use Rattle.sheet.specs.Verdicts.{judged};
-ghost use Rattle.frames.specs.Frames.{Told};
 
 use card::Card;
 use dispatch::{Dispatcher, Stamped};
@@ -24,10 +23,10 @@ pub struct Frame {
 }
 
 // Why there is no frame: the plan is refused, or there is no memory for its slices.
-#[derive(Drop)]
+#[derive(Clone, Copy, PartialEq, Eq, Debug)]
 pub enum FrameFault {
     Refused(SheetFault),
-    Memory,
+    Memory(AllocError),
 }
 
 impl From<SheetFault> for FrameFault {
@@ -38,19 +37,19 @@ impl From<SheetFault> for FrameFault {
     }
 }
 
-impl From<AllocFailed<Stamped>> for FrameFault {
-    ghost from_gives = { λ _ r. r ≡ Memory };
+impl From<AllocError> for FrameFault {
+    ghost from_gives = { λ e r. r ≡ Memory e };
 
-    fn from(_: AllocFailed<Stamped>) -> FrameFault {
-        FrameFault::Memory
+    fn from(error: AllocError) -> FrameFault {
+        FrameFault::Memory(error)
     }
 }
 
-impl From<AllocError> for FrameFault {
-    ghost from_gives = { λ _ r. r ≡ Memory };
+impl<T: Drop> From<AllocFailed<T>> for FrameFault {
+    ghost from_gives = { λ _ r. r ≡ Memory alloc_error };
 
-    fn from(_: AllocError) -> FrameFault {
-        FrameFault::Memory
+    fn from(failed: AllocFailed<T>) -> FrameFault {
+        FrameFault::from(AllocError::from(failed))
     }
 }
 
@@ -77,10 +76,7 @@ pub fn frame_of<S: LocalScheduler + Drop>(
     let mut slices = Vec::new(heap);
     let mut done = 0;
     while done < length {
-        let stamped = match run.next_slice() {
-            Ok(stamped) => stamped,
-            Err(_) => unreachable(),
-        };
+        let stamped = run.next_slice().unwrap();
         done += u64::from(stamped.slice.length);
         slices.push(stamped)?;
     }

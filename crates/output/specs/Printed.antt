@@ -42,12 +42,12 @@ pub record PlanBlocks (bs text : List ℕ) : Type 0 where
 -- why there are no blocks: the plan is refused, or there is no memory
 abbrev pub NoBlocks : List ℕ → FrameFault → Type 0
 NoBlocks bs (Refused e) = RefusedPlan bs e
-NoBlocks bs Memory = Unit {0}
+NoBlocks bs (Memory _) = Unit {0}
 
 -- the line of a refusal; there is none for want of memory
 abbrev pub LineOf : FrameFault → List ℕ → Type 0
 LineOf (Refused e) text = text ≡ refused_text (sheet_told e)
-LineOf Memory text = ⊥
+LineOf (Memory _) text = ⊥
 
 -- the line of the first check that fails, or the blocks
 pub data Printed (bs text : List ℕ) : Type 0 where

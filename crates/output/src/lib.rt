@@ -4,12 +4,9 @@
 ghost use Rattle.std.specs.Prelude.{◌≡◌, take, IfOk, string_bytes, MatchResult};
 ghost use Rattle.card.specs.Verdicts.{fine};
 ghost use Rattle.frames.specs.Frames.{Told};
-ghost use Rattle.izl.specs.Told.{told as izl_told};
 ghost use Rattle.output.specs.Printed.{Block, BothBlocks, LineOf, NoBlocks, PlanBlocks, Printed};
 ghost use Rattle.refusal.specs.Table.{sheet_told};
 ghost use Rattle.sheet.specs.Verdicts.{judged};
-ghost use Rattle.text.specs.Lines.{refused_text};
-ghost use Rattle.wrap.specs.Told.{told as wrap_told};
 
 use blocks::block;
 use card::Card;
@@ -26,14 +23,11 @@ use wrap::Wrap;
 // One byte more than the longest file has: a longer one is judged by so many.
 pub const MOST: usize = 16_908;
 
+#[tactic(auto, using(std::proofs::lemmas::List::take_min))]
 fn first_bytes(bytes: &[u8]) -> &[u8]
     ensures { result.now ≡ take 16908 bytes.now }
 {
-    if bytes.len() > MOST {
-        &bytes[0..MOST]
-    } else {
-        bytes
-    }
+    &bytes[..MOST.min(bytes.len())]
 }
 
 // The block of frame 0 of a plan under a new scheduler.
@@ -48,26 +42,12 @@ pub fn new_block<S: LocalScheduler + Drop>(
     Ok(block::<S>(heap, card, sheet, &frame)?)
 }
 
-// The first block, with the letter I.
-fn first_block(heap: Global, card: &Card, sheet: &Sheet) -> Result<String, FrameFault>
-    ensures { MatchResult result (λ t. Block izl_told 73 card.now sheet.now (string_bytes t)) (λ e. Told card.now sheet.now e) }
-{
-    new_block::<Izl>(heap, card, sheet)
-}
-
-// The second block, with the letter W.
-fn second_block(heap: Global, card: &Card, sheet: &Sheet) -> Result<String, FrameFault>
-    ensures { MatchResult result (λ t. Block wrap_told 87 card.now sheet.now (string_bytes t)) (λ e. Told card.now sheet.now e) }
-{
-    new_block::<Wrap>(heap, card, sheet)
-}
-
-// The two blocks, one behind the other.
+// The block by IZL, with the letter I, and behind it the one by wrap-round, with the letter W.
 fn both_blocks(heap: Global, card: &Card, sheet: &Sheet) -> Result<String, FrameFault>
     ensures { MatchResult result (λ t. BothBlocks card.now sheet.now (string_bytes t)) (λ e. Told card.now sheet.now e) }
 {
-    let mut text = first_block(heap, card, sheet)?;
-    let second = second_block(heap, card, sheet)?;
+    let mut text = new_block::<Izl>(heap, card, sheet)?;
+    let second = new_block::<Wrap>(heap, card, sheet)?;
     text.push_str(second.as_str())?;
     Ok(text)
 }
@@ -80,20 +60,13 @@ fn plan_text(heap: Global, bytes: &[u8]) -> Result<String, FrameFault>
     both_blocks(heap, &card, &sheet)
 }
 
-fn refused_text(heap: Global, refusal: Refusal) -> Result<String, AllocError>
-    ensures { IfOk result (λ t. string_bytes t ≡ refused_text refusal) }
-{
-    let line = RefusedLine(refusal);
-    format!(in heap; "{line}")
-}
-
 // The line of a refusal, where there is memory.
 fn fault_text(heap: Global, fault: FrameFault) -> Result<String, AllocError>
     ensures { IfOk result (λ t. LineOf fault (string_bytes t)) }
 {
     match fault {
-        FrameFault::Refused(refused) => refused_text(heap, refused.told()),
-        FrameFault::Memory => Err(AllocError),
+        FrameFault::Refused(fault) => RefusedLine(Refusal::from(fault)).to_string(heap),
+        FrameFault::Memory(error) => Err(error),
     }
 }
 
@@ -101,8 +74,5 @@ fn fault_text(heap: Global, fault: FrameFault) -> Result<String, AllocError>
 pub fn frame_text(heap: Global, bytes: &[u8]) -> Result<String, AllocError>
     ensures { IfOk result (λ t. Printed (take 16908 bytes.now) (string_bytes t)) }
 {
-    match plan_text(heap, first_bytes(bytes)) {
-        Ok(text) => Ok(text),
-        Err(fault) => fault_text(heap, fault),
-    }
+    plan_text(heap, first_bytes(bytes)).or_else(|fault| fault_text(heap, fault))
 }

@@ -19,6 +19,7 @@ pub enum Layer {
 }
 
 // What a caller is told: layer, number and place. Places count from 1; 0 stands for none.
+// Kept: the number and the two places are the rules' own, and a line prints them so (a).
 #[derive(Clone, Copy, PartialEq, Eq, Debug)]
 pub struct Refusal {
     pub layer: Layer,
@@ -96,11 +97,11 @@ const fn refused(layer: Layer, number: u8, first: u32, second: u32) -> Refusal
     }
 }
 
-impl FileFault {
-    pub fn told(self) -> Refusal
-        ensures { result ≡ file_told self }
-    {
-        match self {
+impl From<FileFault> for Refusal {
+    ghost from_gives = { λ e r. r ≡ file_told e };
+
+    fn from(fault: FileFault) -> Refusal {
+        match fault {
             FileFault::Stub => refused(Layer::File, 1, 0, 0),
             FileFault::Counts => refused(Layer::File, 2, 0, 0),
             FileFault::Layout => refused(Layer::File, 3, 0, 0),
@@ -109,12 +110,12 @@ impl FileFault {
     }
 }
 
-impl CardFault {
-    pub fn told(self) -> Refusal
-        ensures { result ≡ card_told self }
-    {
-        match self {
-            CardFault::File(e) => e.told(),
+impl From<CardFault> for Refusal {
+    ghost from_gives = { λ e r. r ≡ card_told e };
+
+    fn from(fault: CardFault) -> Refusal {
+        match fault {
+            CardFault::File(e) => Refusal::from(e),
             CardFault::Period(task) => refused(Layer::Card, 11, u32::from(task), 0),
             CardFault::RunTime(task) => refused(Layer::Card, 12, u32::from(task), 0),
             CardFault::LongFrame(task) => refused(Layer::Card, 13, u32::from(task), 0),
@@ -123,12 +124,12 @@ impl CardFault {
     }
 }
 
-impl SheetFault {
-    pub fn told(self) -> Refusal
-        ensures { result ≡ sheet_told self }
-    {
-        match self {
-            SheetFault::Card(e) => e.told(),
+impl From<SheetFault> for Refusal {
+    ghost from_gives = { λ e r. r ≡ sheet_told e };
+
+    fn from(fault: SheetFault) -> Refusal {
+        match fault {
+            SheetFault::Card(e) => Refusal::from(e),
             SheetFault::Rows => refused(Layer::Sheet, 21, 0, 0),
             SheetFault::WideShare(interval, task) => {
                 refused(Layer::Sheet, 22, u32::from(interval), u32::from(task))
@@ -139,22 +140,22 @@ impl SheetFault {
     }
 }
 
-impl LocalFault {
-    pub fn told(self) -> Refusal
-        ensures { result ≡ local_told self }
-    {
-        match self {
+impl From<LocalFault> for Refusal {
+    ghost from_gives = { λ e r. r ≡ local_told e };
+
+    fn from(fault: LocalFault) -> Refusal {
+        match fault {
             LocalFault::Misfit => refused(Layer::Local, 31, 0, 0),
             LocalFault::Over => refused(Layer::Local, 32, 0, 0),
         }
     }
 }
 
-impl DispatchFault {
-    pub fn told(self) -> Refusal
-        ensures { result ≡ dispatch_told self }
-    {
-        match self {
+impl From<DispatchFault> for Refusal {
+    ghost from_gives = { λ e r. r ≡ dispatch_told e };
+
+    fn from(fault: DispatchFault) -> Refusal {
+        match fault {
             DispatchFault::Empty => refused(Layer::Dispatch, 41, 0, 0),
             DispatchFault::LastFrame => refused(Layer::Dispatch, 42, 0, 0),
             DispatchFault::NoTask => refused(Layer::Dispatch, 43, 0, 0),
@@ -180,9 +181,10 @@ impl fmt::Display for Refusal {
     ghost output = { λ r. Some (refusal_text r) };
 
     fn fmt<W: fmt::Write>(&self, f: &mut fmt::Formatter<W>) -> fmt::Result {
-        let layer = self.layer;
-        let number = self.number;
-        let (first, second) = self.place;
-        write!(f, "refused {layer} {number} {first} {second}")
+        write!(
+            f,
+            "refused {} {} {} {}",
+            self.layer, self.number, self.place.0, self.place.1
+        )
     }
 }

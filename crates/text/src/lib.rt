@@ -1,8 +1,8 @@
 // The lines that a program prints of a frame, each ended by a line feed.
 #![tactic(auto)]
 
-ghost use Rattle.std.specs.Prelude.{◌≡◌, ◌≤◌, take, Some};
-ghost use Rattle.text.specs.Lines.{head_text, slice_text, sum_text, refused_text, seat_text};
+ghost use Rattle.std.specs.Prelude.{Some};
+ghost use Rattle.text.specs.Lines.{head_text, slice_text, sum_text, refused_text};
 
 use refusal::Refusal;
 use std::fmt;
@@ -18,12 +18,10 @@ pub struct HeadLine {
 
 // A slice's stamp and length, and the seats of its cores.
 #[derive(Clone, Copy)]
-pub struct SliceLine {
+pub struct SliceLine<'a> {
     pub stamp: u64,
     pub length: u32,
-    pub cores: u8,
-    pub seats: [u8; 16],
-    ghost few: { cores ≤ 16 },
+    pub seats: &'a [u8],
 }
 
 // Slices, switches and busy ticks.
@@ -38,43 +36,27 @@ pub struct SumLine {
 #[derive(Clone, Copy)]
 pub struct RefusedLine(pub Refusal);
 
-// A seat after a space.
-#[derive(Clone, Copy)]
-struct Seat(u8);
-
-impl fmt::Display for Seat {
-    ghost output = { λ s. Some (seat_text s.0) };
-
-    fn fmt<W: fmt::Write>(&self, f: &mut fmt::Formatter<W>) -> fmt::Result {
-        let task = self.0;
-        write!(f, " {task}")
-    }
-}
-
 impl fmt::Display for HeadLine {
     ghost output = { λ h. Some (head_text h.letter h.cores h.tasks h.intervals) };
 
     fn fmt<W: fmt::Write>(&self, f: &mut fmt::Formatter<W>) -> fmt::Result {
-        let letter = self.letter;
-        let cores = self.cores;
-        let tasks = self.tasks;
-        let intervals = self.intervals;
-        writeln!(f, "{letter} {cores} {tasks} {intervals}")
+        writeln!(
+            f,
+            "{} {} {} {}",
+            self.letter, self.cores, self.tasks, self.intervals
+        )
     }
 }
 
-impl fmt::Display for SliceLine {
-    ghost output = { λ s. Some (slice_text s.stamp s.length (take s.cores s.seats)) };
+impl fmt::Display for SliceLine<'_> {
+    ghost output = { λ s. Some (slice_text s.stamp s.length s.seats.now) };
 
     fn fmt<W: fmt::Write>(&self, f: &mut fmt::Formatter<W>) -> fmt::Result {
-        let stamp = self.stamp;
-        let length = self.length;
-        write!(f, "{stamp} {length}")?;
-        for c in 0..usize::from(self.cores) {
-            let seat = Seat(self.seats[c]);
-            write!(f, "{seat}")?;
+        write!(f, "{} {}", self.stamp, self.length)?;
+        for seat in self.seats {
+            write!(f, " {seat}")?;
         }
-        writeln!(f, "")
+        writeln!(f)
     }
 }
 
@@ -82,10 +64,7 @@ impl fmt::Display for SumLine {
     ghost output = { λ s. Some (sum_text s.slices s.switches s.busy) };
 
     fn fmt<W: fmt::Write>(&self, f: &mut fmt::Formatter<W>) -> fmt::Result {
-        let slices = self.slices;
-        let switches = self.switches;
-        let busy = self.busy;
-        writeln!(f, "sum {slices} {switches} {busy}")
+        writeln!(f, "sum {} {} {}", self.slices, self.switches, self.busy)
     }
 }
 
@@ -93,7 +72,6 @@ impl fmt::Display for RefusedLine {
     ghost output = { λ r. Some (refused_text r.0) };
 
     fn fmt<W: fmt::Write>(&self, f: &mut fmt::Formatter<W>) -> fmt::Result {
-        let refusal = self.0;
-        writeln!(f, "{refusal}")
+        writeln!(f, "{}", self.0)
     }
 }

@@ -4,4 +4,4 @@ use Rattle.blocks.specs.Blocks.{line_text}
 use Rattle.blocks.proofs.block.Given as goal
 
 abbrev pub invariant-loop-stamped : goal.invariant-loop-stamped
-invariant-loop-stamped g l = string_bytes l.text ≡ string_bytes l.initial.text ++ flat_map (line_text l.cores) (take l.stamped-index (vec_items l.frame.slices))
+invariant-loop-stamped g l = string_bytes l.text ≡ string_bytes l.initial.text ++ flat_map (line_text l.card.cores) (take l.stamped-index (vec_items l.frame.slices))

@@ -16,7 +16,7 @@ use Rattle.output.proofs.plan_text.Goals as goal
 -- a plan that is refused is not fine, since no fault has the number 0
 no_blocks : (bs : List ℕ) (card : Card) (sheet : Sheet) → PlanIn bs card sheet → (e : FrameFault) → Told card sheet e → NoBlocks bs e
 no_blocks bs card sheet holds (Refused e) told = by_plan card sheet holds (λ f. sheet_bad e (ap (λ (r : Refusal). r.number) told ∙ ap (λ (j : Judged). j.0) f)) told
-no_blocks bs card sheet holds Memory told = tt
+no_blocks bs card sheet holds (Memory _) told = tt
 
 pub returns : goal.returns
 returns c =
