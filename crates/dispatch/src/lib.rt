@@ -69,10 +69,9 @@ fn load_interval<S: LocalScheduler>(scheduler: &mut S, placement: &Placement, in
     ensures { (card : Card) (sheet : Sheet) → Holds placement.now card sheet → Loaded S.meaning scheduler.old card.cores (span card (frame_of (tasks_of card)) interval) (row sheet interval) scheduler.new }
 {
     let length = length_of(placement, interval);
-    match scheduler.load(placement.cores(), length, row_of(placement, interval)) {
-        Ok(()) => {}
-        Err(_) => unreachable(),
-    }
+    scheduler
+        .load(placement.cores(), length, row_of(placement, interval))
+        .unwrap();
 }
 
 // Takes the scheduler's choice.
@@ -80,10 +79,7 @@ fn take_choice<S: LocalScheduler>(scheduler: &mut S) -> Slice
     requires { 1 ≤ S.meaning.left scheduler.old }
     ensures { Handed S.meaning scheduler.old result scheduler.new }
 {
-    match scheduler.next() {
-        Ok(slice) => slice,
-        Err(_) => unreachable(),
-    }
+    scheduler.next().unwrap()
 }
 
 impl<S: LocalScheduler> Dispatcher<S> {
