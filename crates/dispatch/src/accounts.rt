@@ -136,6 +136,7 @@ impl Books {
         ensures busy { self.new.busy ≡ self.old.busy }
         ensures seats { self.new.seats ≡ self.old.seats }
     {
+        // Kept: the number names the account and the task, and a placement tells one task at a time.
         for i in 0..placement.task_count() {
             let task = placement.task(usize::from(i));
             let ticks = ticks_for(slice, i + 1);

@@ -176,7 +176,7 @@ impl<S: LocalScheduler> Dispatcher<S> {
     pub fn account(&self, task: u32) -> Result<(u32, u32), DispatchFault>
         ensures { Does S.meaning self.now (account task result) self.now }
     {
-        if task < 1 || task > u32::from(self.placement.task_count()) {
+        if !(1..=u32::from(self.placement.task_count())).contains(&task) {
             return Err(DispatchFault::NoTask);
         }
         let account = self.books.accounts[(task - 1) as usize];
