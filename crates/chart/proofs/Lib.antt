@@ -5,3 +5,4 @@ pub mod Marks
 pub mod Parts
 pub mod Laying
 pub mod Blocks
+pub mod Built

@@ -17,7 +17,8 @@ use Rattle.dispatch.specs.declared.Stamped.{Stamped}
 use Rattle.dispatch.specs.Counts.{chart, ticks}
 use Rattle.dispatch.specs.Promise.{Right, Told}
 use Rattle.dispatch.specs.Books.{nothing}
-use Rattle.dispatch.specs.Runs.{Call, Where, Answers, where_next, behind, handed}
+use Rattle.dispatch.specs.Places.{frame_at}
+use Rattle.dispatch.specs.Runs.{Call, Where, Answers, where_next, onward, behind, handed}
 use Rattle.dispatch.specs.Runs.Call.{next_slice}
 use Rattle.dispatch.specs.Runs.Where.{inside, at_start, past}
 use Rattle.dispatch.proofs.Goods.{Good, total}
@@ -45,7 +46,7 @@ module _ {S : Type 0} (m : Local S) (p : Placement) (card : Card) (h : ℕ) (she
 
     module _ (a : Amid m card h sheet first d (handed calls)) where
       early : first + a.f < 2 ^ 32
-      early = let x = inv.0.early in let y = a.frame in omega (arith, x, y)
+      early = let x = inv.0.early in let y = ap frame_at a.place in omega (arith, x, y)
 
       -- the last frame of all was handed out whole
       over : sheet.rows ≤ a.k + 1 → 2 ^ 32 ≤ first + a.f + 1 → m.left d.scheduler ≡ 0 → Answers m card sheet h d r d' past → Inv d' (next_slice r ∷ calls)
@@ -63,8 +64,8 @@ module _ {S : Type 0} (m : Local S) (p : Placement) (card : Card) (h : ℕ) (she
           let w : P r = subst P (sym answer) v in
           (w.0, (w.1, inv.1))
 
-      onward : m.left d.scheduler ≡ 0 → a.k + 1 < sheet.rows → Answers m card sheet h d r d' (at_start (first + a.f) (a.k + 1)) → Inv d' (next_slice r ∷ calls)
-      onward e l (z, s₁, answer, loaded, out) =
+      next_interval : m.left d.scheduler ≡ 0 → a.k + 1 < sheet.rows → Answers m card sheet h d r d' (at_start (first + a.f) (a.k + 1)) → Inv d' (next_slice r ∷ calls)
+      next_interval e l (z, s₁, answer, loaded, out) =
           finish z answer (start_step m p card h sheet good s first d d' (handed calls) inv.0 z a.f (a.k + 1) s₁ early (close m card h sheet good first a.f a.k (handed calls) d.scheduler a.mid e l) (λ i il never. owes_on card h sheet good i il a.f a.k (get_or d.books.accounts i nothing).owed (got (i + 1) (chart (handed calls))) (a.owes i il) never) loaded out)
 
       next_frame : m.left d.scheduler ≡ 0 → sheet.rows ≤ a.k + 1 → first + a.f + 1 < 2 ^ 32 → Answers m card sheet h d r d' (at_start (first + a.f + 1) 0) → Inv d' (next_slice r ∷ calls)
@@ -78,7 +79,7 @@ module _ {S : Type 0} (m : Local S) (p : Placement) (card : Card) (h : ℕ) (she
       amid : Answers m card sheet h d r d' (cond (eqb (m.left d.scheduler) 0) (behind sheet.rows (first + a.f) a.k) (inside (first + a.f) a.k)) → Inv d' (next_slice r ∷ calls)
       amid ans = by_test A Q (eqb (m.left d.scheduler) 0) (behind sheet.rows (first + a.f) a.k) (inside (first + a.f) a.k) ans
           (λ e b. let left : m.left d.scheduler ≡ 0 = eqb-true (m.left d.scheduler) 0 e in by_test A Q (ltb (a.k + 1) sheet.rows) (at_start (first + a.f) (a.k + 1)) (cond (ltb (first + a.f + 1) (2 ^ 32)) (at_start (first + a.f + 1) 0) past) b
-          (λ l c. onward left (ltb-true (a.k + 1) sheet.rows l) c)
+          (λ l c. next_interval left (ltb-true (a.k + 1) sheet.rows l) c)
           (λ l c. let last : sheet.rows ≤ a.k + 1 = ltb-false (a.k + 1) sheet.rows l in by_test A Q (ltb (first + a.f + 1) (2 ^ 32)) (at_start (first + a.f + 1) 0) past c
           (λ t g. next_frame left last (ltb-true (first + a.f + 1) (2 ^ 32) t) g)
           (λ t g. over last (ltb-false (first + a.f + 1) (2 ^ 32) t) left g)))
@@ -93,7 +94,7 @@ module _ {S : Type 0} (m : Local S) (p : Placement) (card : Card) (h : ℕ) (she
     at_first : Before card first d (handed calls) → Answers m card sheet h d r d' (at_start (first + 0) 0) → Inv d' (next_slice r ∷ calls)
     at_first b (z, s₁, answer, loaded, out) =
         let early = inv.0.early in
-        let fr = b.frame in
+        let fr = ap frame_at b.place in
         let rows = sheet.some_rows in
         let b₀ = good.from_0 in
         let zh = law.zero-mul h in
@@ -109,11 +110,7 @@ module _ {S : Type 0} (m : Local S) (p : Placement) (card : Card) (h : ℕ) (she
 
         before : (b : Before card first d (handed calls)) → where_next m sheet.rows d ≡ at_start (first + 0) 0
         before b =
-            ap (λ (t : Bool). cond t (cond (eqb (m.left d.scheduler) 0) (behind sheet.rows d.frame d.interval) (inside d.frame d.interval)) (at_start d.frame d.interval)) b.loaded
-            ∙ ap (λ (n : ℕ). at_start n d.interval) (b.frame ∙ sym (law.add-zero first)) ∙ ap (λ (n : ℕ). at_start (first + 0) n) b.interval
+            ap (onward sheet.rows (m.left d.scheduler)) b.place ∙ ap (λ (n : ℕ). at_start n 0) (sym (law.add-zero first))
 
         between : (a : Amid m card h sheet first d (handed calls)) → where_next m sheet.rows d ≡ cond (eqb (m.left d.scheduler) 0) (behind sheet.rows (first + a.f) a.k) (inside (first + a.f) a.k)
-        between a =
-            ap (λ (t : Bool). cond t (cond (eqb (m.left d.scheduler) 0) (behind sheet.rows d.frame d.interval) (inside d.frame d.interval)) (at_start d.frame d.interval)) a.loaded
-            ∙ ap (λ (n : ℕ). cond (eqb (m.left d.scheduler) 0) (behind sheet.rows n d.interval) (inside n d.interval)) a.frame
-            ∙ ap (λ (n : ℕ). cond (eqb (m.left d.scheduler) 0) (behind sheet.rows (first + a.f) n) (inside (first + a.f) n)) a.interval
+        between a = ap (onward sheet.rows (m.left d.scheduler)) a.place

@@ -1,5 +1,5 @@
 -- What holds of a dispatcher after any calls, and that a slice keeps it.
-use Rattle.std.proofs.Common.{◌≡◌, ℕ, suc, ◌+◌, ◌-◌, ◌*◌, ◌%◌, ◌^◌, ◌<◌, ◌≤◌, Bool, true, false, cond, ◌&&◌, eqb, ◌⊎◌, List, [], ◌∷◌, ◌++◌, get_or, sym, refl, ap, ◌∙◌, subst, arith}
+use Rattle.std.proofs.Common.{◌≡◌, ℕ, suc, ◌+◌, ◌-◌, ◌*◌, ◌%◌, ◌^◌, ◌<◌, ◌≤◌, Bool, false, cond, ◌&&◌, eqb, ◌⊎◌, List, [], ◌∷◌, ◌++◌, get_or, sym, refl, ap, ◌∙◌, subst, arith}
 use mathlib.Core.Logic.◌⊎◌.{inr}
 use native.Mathlib.Nat as law
 use Rattle.card.specs.declared.types.Card.{Card}
@@ -9,11 +9,13 @@ use Rattle.chart.specs.Charts.{got}
 use Rattle.card.specs.Cards.{begins, period_of, run_time_of, released, tasks_of}
 use Rattle.local.specs.Meaning.{Local, seated}
 use Rattle.dispatch.specs.declared.books.Account.{Account}
+use Rattle.dispatch.specs.declared.place.Place.TheVariants as place
 use Rattle.dispatch.specs.declared.state.Dispatcher.{Dispatcher}
 use Rattle.dispatch.specs.declared.Stamped.{Stamped}
 use Rattle.dispatch.specs.Counts.{chart, ticks, last_start}
 use Rattle.dispatch.specs.Promise.{Follows}
 use Rattle.dispatch.specs.Books.{nothing}
+use Rattle.dispatch.specs.Places.{frame_at}
 use Rattle.dispatch.specs.Runs.{Out}
 use Rattle.dispatch.proofs.Along.{last_start_push}
 use Rattle.dispatch.proofs.Goods.{Good, edge, to_h}
@@ -26,9 +28,7 @@ use Rattle.dispatch.proofs.Owing.{Owes, owes_hand}
 
 -- no slice was handed out yet
 pub record Before {S : Type 0} (card : Card) (first : ℕ) (d : Dispatcher S) (zs : List Stamped) : Type 0 where
-  pub loaded : d.loaded ≡ false
-  pub frame : d.frame ≡ first
-  pub interval : d.interval ≡ 0
+  pub place : d.place ≡ place.Before first
   pub empty : zs ≡ []
   pub accounts : (i : ℕ) → i < card.count → get_or d.books.accounts i nothing ≡ record { given = 0; owed = run_time_of card i }
 
@@ -36,9 +36,7 @@ pub record Before {S : Type 0} (card : Card) (first : ℕ) (d : Dispatcher S) (z
 pub record Amid {S : Type 0} (m : Local S) (card : Card) (h : ℕ) (sheet : Sheet) (first : ℕ) (d : Dispatcher S) (zs : List Stamped) : Type 0 where
   pub f : ℕ
   pub k : ℕ
-  pub loaded : d.loaded ≡ true
-  pub frame : d.frame ≡ first + f
-  pub interval : d.interval ≡ k
+  pub place : d.place ≡ place.In (first + f) k
   pub mid : Mid m card h sheet f k d.scheduler zs
   pub low : edge card h f k ≤ last_start zs
   pub high : last_start zs < edge card h f (k + 1)
@@ -49,7 +47,7 @@ pub record Amid {S : Type 0} (m : Local S) (card : Card) (h : ℕ) (sheet : Shee
 
 pub record Core {S : Type 0} (m : Local S) (p : Placement) (card : Card) (h : ℕ) (sheet : Sheet) (s : S) (first : ℕ) (d : Dispatcher S) (zs : List Stamped) : Type 0 where
   pub placement : d.placement ≡ p
-  pub early : d.frame < 2 ^ 32
+  pub early : frame_at d.place < 2 ^ 32
   pub sound : Sound card h sheet first zs
   pub tally : Tally card h d.books zs
   pub follows : Follows m card sheet h s zs d.scheduler
@@ -76,7 +74,7 @@ module _ {S : Type 0} (m : Local S) (p : Placement) (card : Card) (h : ℕ) (she
   slice_core rel seats owed follows =
       let sound = hand_sound m card h sheet good first f k zs z s₁ d'.scheduler mid out.handed core.sound out.stamp in
       let fine = at_place card h sheet good first (zs ++ z ∷ []) sound zs [] z refl in
-      let fr = out.frame in
+      let fr = ap frame_at out.place in
       let lies = lies_in m card h sheet good first f k zs z s₁ d'.scheduler mid out.handed in
       let ls = last_start_push zs z in
       let ba = mid.begun_at in
@@ -96,9 +94,7 @@ module _ {S : Type 0} (m : Local S) (p : Placement) (card : Card) (h : ℕ) (she
         phase = inr (record {
           f = f;
           k = k;
-          loaded = out.loaded;
-          frame = fr;
-          interval = out.interval;
+          place = out.place;
           mid = hand_mid m card h sheet good first f k zs z s₁ d'.scheduler mid out.handed;
           low = omega (arith, ls, ba);
           high = omega (arith, ls, l₀);

@@ -1,5 +1,5 @@
 -- A dispatcher that has gone on to its next slice, and what it then answers.
-use Rattle.std.proofs.Common.{◌≡◌, ℕ, ◌+◌, ◌-◌, ◌^◌, ◌≤◌, Bool, true, false, cond, eqb, ltb, is_ok, Some, None, Ok, Err, Option, Result, sym, refl, ap, ◌∙◌, subst, arith}
+use Rattle.std.proofs.Common.{◌≡◌, ℕ, ◌+◌, ◌-◌, ◌^◌, ◌≤◌, Bool, true, false, cond, ltb, is_ok, Some, None, Ok, Err, Option, Result, sym, refl, ap, ◌∙◌, subst, arith}
 use Rattle.std.proofs.lemmas.Bool.{eq-eqb, true≢false}
 use Rattle.refusal.specs.declared.DispatchFault.{DispatchFault}
 use Rattle.card.specs.declared.types.Card.{Card}
@@ -11,15 +11,18 @@ use Rattle.dispatch.specs.declared.books.Books.{Books}
 use Rattle.dispatch.specs.declared.state.Dispatcher.{Dispatcher}
 use Rattle.dispatch.specs.declared.Stamped.{Stamped}
 use Rattle.dispatch.specs.Books.{Entered}
-use Rattle.dispatch.specs.Moves.{target, Advanced}
-use Rattle.dispatch.specs.Runs.{Where, Answers, Out, behind}
+use Rattle.dispatch.specs.Moves.{Advanced}
+use Rattle.dispatch.specs.Places.{target}
+use Rattle.dispatch.specs.declared.place.Place.{Place}
+use Rattle.dispatch.specs.declared.place.Place.TheVariants.{Before, In}
+use Rattle.dispatch.specs.Runs.{Where, Answers, Out, behind, onward}
 use Rattle.dispatch.specs.Runs.Where.{inside, at_start, past}
 
 -- the interval to load is where the next slice lies
-pub where_target : (loaded : Bool) (left n f k f' k' : ℕ) → (loaded ≡ true → left ≡ 0) → target loaded n f k ≡ Some (f', k') → cond loaded (cond (eqb left 0) (behind n f k) (inside f k)) (at_start f k) ≡ at_start f' k'
-where_target false left n f k f' k' over e = ap (λ (p : ℕ × ℕ). at_start p.0 p.1) (some_inj (f, k) (f', k') e)
-where_target true left n f k f' k' over e =
-    ap (λ (b : Bool). cond b (behind n f k) (inside f k)) (eq-eqb left 0 (over refl)) ∙ go (ltb (k + 1) n) (ltb (f + 1) (2 ^ 32)) e
+pub where_target : (p : Place) (left n f' k' : ℕ) → ((f k : ℕ) → p ≡ In f k → left ≡ 0) → target p n ≡ Some (f', k') → onward n left p ≡ at_start f' k'
+where_target (Before f) left n f' k' over e = ap (λ (p : ℕ × ℕ). at_start p.0 p.1) (some_inj (f, 0) (f', k') e)
+where_target (In f k) left n f' k' over e =
+    ap (λ (b : Bool). cond b (behind n f k) (inside f k)) (eq-eqb left 0 (over f k refl)) ∙ go (ltb (k + 1) n) (ltb (f + 1) (2 ^ 32)) e
   where
     go : (more again : Bool) → cond {A = Option (ℕ × ℕ)} more (Some (f, k + 1)) (cond again (Some (f + 1, 0)) None) ≡ Some (f', k') → cond more (at_start f (k + 1)) (cond again (at_start (f + 1) 0) past) ≡ at_start f' k'
     go true again e = ap (λ (p : ℕ × ℕ). at_start p.0 p.1) (some_inj (f, k + 1) (f', k') e)
@@ -43,27 +46,33 @@ err_inj {A} {E} x y e = ap fault e
 ok_err : {A E : Type 0} (x : A) (y : E) → ◌≡◌ {A = Result A E} (Ok x) (Err y) → ⊥
 ok_err x y e = true≢false (ap is_ok e)
 
+-- frame and interval of the next slice, and whether it begins that interval
+abbrev pub Step : Type 0
+Step = ℕ × ℕ × Bool
+
 module _ {S : Type 0} (m : Local S) (card : Card) (sheet : Sheet) (h : ℕ) (d d₁ : Dispatcher S) where
-  module _ (first : Bool) where
-    pub placed : (w : Where) → Advanced m card sheet h d (Ok first) d₁ w → d₁.placement ≡ d.placement
+  module _ (t : Step) where
+    pub placed : (w : Where) → Advanced m card sheet h d (Ok t) d₁ w → d₁.placement ≡ d.placement
     placed (inside f k) a = ap (λ (e : Dispatcher S). e.placement) a.1
     placed (at_start f k) a = a.2
     placed past a = ap (λ (e : Dispatcher S). e.placement) a.1
 
-    pub ready : (w : Where) → Advanced m card sheet h d (Ok first) d₁ w → (d₁.loaded ≡ true) × (1 ≤ m.left d₁.scheduler)
-    ready (inside f k) a = (ap (λ (e : Dispatcher S). e.loaded) a.1 ∙ a.5, subst (λ (e : Dispatcher S). 1 ≤ m.left e.scheduler) (sym a.1) a.2)
-    ready (at_start f k) a = (a.6, omega (arith, a.1.ticks, a.1.fit.limits.2))
-    ready past a = absurd (ok_err first _ a.0)
+    pub ready : (w : Where) → Advanced m card sheet h d (Ok t) d₁ w → (d₁.place ≡ In t.0 t.1) × (1 ≤ m.left d₁.scheduler)
+    ready (inside f k) a =
+        let at : d₁.place ≡ In f k = ap (λ (e : Dispatcher S). e.place) a.1 ∙ a.3 in
+        (at ∙ ap (λ (u : Step). In u.0 u.1) (sym (ok_inj t (f, k, false) a.0)), subst (λ (e : Dispatcher S). 1 ≤ m.left e.scheduler) (sym a.1) a.2)
+    ready (at_start f k) a = (a.4 ∙ ap (λ (u : Step). In u.0 u.1) (sym (ok_inj t (f, k, true) a.0)), omega (arith, a.1.ticks, a.1.fit.limits.2))
+    ready past a = absurd (ok_err t _ a.0)
 
-    module _ (z : Stamped) (d₂ : Dispatcher S) (out : Out m card h d₁.frame d₁.interval first d₁.scheduler z d₁ d₂) where
-      pub answers_of : (w : Where) → Advanced m card sheet h d (Ok first) d₁ w → Answers m card sheet h d (Ok z) d₂ w
-      answers_of (inside f k) (told, same, some, frame, interval, loaded) =
-          let a : Out m card h d.frame d.interval first d.scheduler z d d₂ = subst (λ (e : Dispatcher S). Out m card h e.frame e.interval first e.scheduler z e d₂) same out in
-          let b : Out m card h f k first d.scheduler z d d₂ = subst (λ (n : ℕ). Out m card h f n first d.scheduler z d d₂) interval (subst (λ (n : ℕ). Out m card h n d.interval first d.scheduler z d d₂) frame a) in
-          (z, refl, subst (λ (t : Bool). Out m card h f k t d.scheduler z d d₂) (ok_inj first false told) b)
-      answers_of (at_start f k) (told, loads, placement, books, frame, interval, loaded) =
-          let a : Out m card h f k first d₁.scheduler z d₁ d₂ = subst (λ (n : ℕ). Out m card h f n first d₁.scheduler z d₁ d₂) interval (subst (λ (n : ℕ). Out m card h n d₁.interval first d₁.scheduler z d₁ d₂) frame out) in
-          let b : Out m card h f k true d₁.scheduler z d₁ d₂ = subst (λ (t : Bool). Out m card h f k t d₁.scheduler z d₁ d₂) (ok_inj first true told) a in (
+    module _ (z : Stamped) (d₂ : Dispatcher S) (out : Out m card h t.0 t.1 t.2 d₁.scheduler z d₁ d₂) where
+      told_as : (u : Step) → t ≡ u → Out m card h u.0 u.1 u.2 d₁.scheduler z d₁ d₂
+      told_as u e = subst (λ (v : Step). Out m card h v.0 v.1 v.2 d₁.scheduler z d₁ d₂) e out
+
+      pub answers_of : (w : Where) → Advanced m card sheet h d (Ok t) d₁ w → Answers m card sheet h d (Ok z) d₂ w
+      answers_of (inside f k) (told, same, some, at) =
+          (z, refl, subst (λ (e : Dispatcher S). Out m card h f k false e.scheduler z e d₂) same (told_as (f, k, false) (ok_inj t (f, k, false) told)))
+      answers_of (at_start f k) (told, loads, placement, books, at) =
+          let b = told_as (f, k, true) (ok_inj t (f, k, true) told) in (
             z,
             d₁.scheduler,
             refl,
@@ -72,15 +81,13 @@ module _ {S : Type 0} (m : Local S) (card : Card) (sheet : Sheet) (h : ℕ) (d d
               handed = b.handed;
               stamp = b.stamp;
               placement = b.placement ∙ placement;
-              frame = b.frame;
-              interval = b.interval;
-              loaded = b.loaded;
+              place = b.place;
               books = subst (λ (x : Books). Entered card x true (begins card h (k + 1) - m.left d₁.scheduler) z.slice d₂.books) books b.books;
             },
           )
-      answers_of past (told, same) = absurd (ok_err first _ told)
+      answers_of past (told, same) = absurd (ok_err t _ told)
 
   pub refused_of : (e : DispatchFault) (w : Where) → Advanced m card sheet h d (Err e) d₁ w → Answers m card sheet h d (Err e) d₁ w
-  refused_of e (inside f k) a = absurd (ok_err false e (sym a.0))
-  refused_of e (at_start f k) a = absurd (ok_err true e (sym a.0))
+  refused_of e (inside f k) a = absurd (ok_err (f, k, false) e (sym a.0))
+  refused_of e (at_start f k) a = absurd (ok_err (f, k, true) e (sym a.0))
   refused_of e past a = (ap (λ (x : DispatchFault). Err x) (err_inj e _ a.0), a.1)

@@ -1,5 +1,5 @@
 -- A dispatcher that is made with opened accounts and zero tallies is begun.
-use Rattle.std.proofs.Common.{◌≡◌, ℕ, ◌<◌, false, List, get_or, Option, ap, ◌∙◌, arith}
+use Rattle.std.proofs.Common.{◌≡◌, ℕ, ◌<◌, List, get_or, Option, ap, ◌∙◌, arith}
 use Rattle.card.specs.declared.types.Card.{Card}
 use Rattle.sheet.specs.declared.types.Sheet.{Sheet}
 use Rattle.sheet.specs.declared.placement.Placement.{Placement}
@@ -7,6 +7,7 @@ use Rattle.card.specs.Cards.{run_time_of}
 use Rattle.sheet.specs.Held.{task_in, Holds}
 use Rattle.dispatch.specs.declared.books.Account.{Account}
 use Rattle.dispatch.specs.declared.books.Books.{Books}
+use Rattle.dispatch.specs.declared.place.Place.TheVariants.{Before}
 use Rattle.dispatch.specs.declared.state.Dispatcher.{Dispatcher}
 use Rattle.dispatch.specs.Books.{Opened, nothing}
 use Rattle.dispatch.specs.Runs.{Begun}
@@ -19,5 +20,5 @@ owing p accounts opened card sheet held i l = opened i (omega (arith, card.few_t
 abbrev pub Blank : Books → Type 0
 Blank b = (b.slices ≡ 0) × (b.switches ≡ 0) × (b.busy ≡ 0)
 
-pub begun_of : {S : Type 0} {p : Placement} {s : S} {first : ℕ} {d : Dispatcher S} → d.placement ≡ p → d.scheduler ≡ s → d.frame ≡ first → d.interval ≡ 0 → d.loaded ≡ false → Blank d.books → Opened p d.books.accounts → Begun p s first d
-begun_of {p = p} {d = d} held over frame interval fresh blank opened = record { held = held; over = over; frame = frame; interval = interval; fresh = fresh; accounts = owing p d.books.accounts opened; no_slices = blank.0; no_switches = blank.1; no_busy = blank.2 }
+pub begun_of : {S : Type 0} {p : Placement} {s : S} {first : ℕ} {d : Dispatcher S} → d.placement ≡ p → d.scheduler ≡ s → d.place ≡ Before first → Blank d.books → Opened p d.books.accounts → Begun p s first d
+begun_of {p = p} {d = d} held over place blank opened = record { held = held; over = over; place = place; accounts = owing p d.books.accounts opened; no_slices = blank.0; no_switches = blank.1; no_busy = blank.2 }

@@ -12,6 +12,7 @@ use Rattle.dispatch.specs.declared.state.Dispatcher.{Dispatcher}
 use Rattle.dispatch.specs.declared.Stamped.{Stamped}
 use Rattle.dispatch.specs.Promise.{Promised, Kept, Follows}
 use Rattle.dispatch.specs.Promise.Follows.{untouched}
+use Rattle.dispatch.specs.Places.{frame_at}
 use Rattle.dispatch.specs.Runs.{Call, Does, Run, Begun, Answers, where_next, handed}
 use Rattle.dispatch.specs.Runs.Call.{next_slice, account, tally}
 use Rattle.dispatch.proofs.Induct.{every_run}
@@ -38,14 +39,14 @@ kept_of card h sheet good first zs sound = record {
 module _ {S : Type 0} (m : Local S) (p : Placement) (s : S) (first : ℕ) (card : Card) (h : ℕ) (sheet : Sheet) (good : Good card h sheet) (held : Holds p card sheet) where
   at_begin : (d : Dispatcher S) → first < 2 ^ 32 → Begun p s first d → Core m p card h sheet s first d []
   at_begin d early begun =
-      let fr = begun.frame in
+      let fr = ap frame_at begun.place in
       record {
         placement = begun.held;
         early = omega (arith, fr, early);
         sound = record { past = λ i f k il kl le. let up = good.rising k kl in absurd (omega (arith, up, le)); few = λ f k l. omega arith; later = λ a b l. refl; once = tt; along = tt };
         tally = record { slices = begun.no_slices; switches = begun.no_switches; busy = begun.no_busy; few_slices = omega arith; few_switches = omega arith; little_busy = omega arith };
         follows = subst (Follows m card sheet h s []) (sym begun.over) untouched;
-        phase = inl (record { loaded = begun.fresh; frame = fr; interval = begun.interval; empty = refl; accounts = begun.accounts card sheet held });
+        phase = inl (record { place = begun.place; empty = refl; accounts = begun.accounts card sheet held });
       }
 
   abbrev I : Dispatcher S → List Call → Type 0

@@ -14,6 +14,7 @@ use Rattle.dispatch.specs.declared.Stamped.{Stamped}
 use Rattle.dispatch.specs.Counts.{chart, ticks}
 use Rattle.dispatch.specs.Promise.Follows.{opening, going_on}
 use Rattle.dispatch.specs.Books.{nothing}
+use Rattle.dispatch.specs.Places.{frame_at}
 use Rattle.dispatch.specs.Runs.{Out}
 use Rattle.dispatch.proofs.Goods.{Good, to_h}
 use Rattle.dispatch.proofs.States.{Open, load}
@@ -52,7 +53,7 @@ module _ {S : Type 0} (m : Local S) (p : Placement) (card : Card) (h : ℕ) (she
       let at = mid.at in
       let low = a.low in
       let last = a.last in
-      let fr = a.frame in
+      let fr = ap frame_at a.place in
       let early = core.early in
       let hands = out.handed.some in
       let wit = out.handed.within in

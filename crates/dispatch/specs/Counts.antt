@@ -31,6 +31,10 @@ starts a (z ∷ zs) = a ∷ starts (a + z.slice.length) zs
 abbrev pub from_to : ℕ → ℕ → ℕ → Bool
 from_to a b tick = nat_le a tick && nat_lt tick b
 
+-- a core's task before, and its task now: whether it is seated with a task that it did not have
+abbrev pub switches_core : ℕ × ℕ → Bool
+switches_core p = not (p.1 == 0) && not (p.1 == p.0)
+
 -- cores seated with a task that they did not have before
 abbrev pub changed : Row → Row → ℕ
 changed before [] = 0

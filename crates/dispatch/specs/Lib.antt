@@ -1,5 +1,5 @@
 pub mod Counts
-pub mod Ranges
+pub mod Places
 pub mod Books
 pub mod Refused
 pub mod Runs

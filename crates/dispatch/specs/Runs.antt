@@ -11,6 +11,8 @@ use Rattle.sheet.specs.Sheets.{row}
 use Rattle.sheet.specs.Held.{held, asked, Holds, Empty}
 use Rattle.local.specs.Meaning.{Local, Loaded, Handed}
 use Rattle.dispatch.specs.declared.books.Books.{Books}
+use Rattle.dispatch.specs.declared.place.Place.{Place}
+use Rattle.dispatch.specs.declared.place.Place.TheVariants.{Before, In}
 use Rattle.dispatch.specs.declared.state.Dispatcher.{Dispatcher}
 use Rattle.dispatch.specs.declared.Stamped.{Stamped}
 use Rattle.dispatch.specs.Books.{nothing, Entered}
@@ -19,9 +21,7 @@ use Rattle.dispatch.specs.Counts.{stamp_of}
 pub record Begun {S : Type 0} (p : Placement) (s : S) (first : ℕ) (d : Dispatcher S) : Type 0 where
   pub held : d.placement ≡ p
   pub over : d.scheduler ≡ s
-  pub frame : d.frame ≡ first
-  pub interval : d.interval ≡ 0
-  pub fresh : d.loaded ≡ false
+  pub place : d.place ≡ Before first
   pub accounts : (card : Card) (sheet : Sheet) → Holds p card sheet → (i : ℕ) → i < card.count → slice_index_or d.books.accounts i nothing ≡ record { given = 0; owed = run_time_of card i }
   pub no_slices : d.books.slices ≡ 0
   pub no_switches : d.books.switches ≡ 0
@@ -37,17 +37,20 @@ pub data Where : Type 0 where
 abbrev pub behind : ℕ → ℕ → ℕ → Where
 behind n f k = cond (nat_lt (k + 1) n) (at_start f (k + 1)) (cond (nat_lt (f + 1) (2 ^ 32)) (at_start (f + 1) 0) past)
 
+-- from a place on, with so many ticks left to the scheduler
+abbrev pub onward : ℕ → ℕ → Place → Where
+onward n left (Before f) = at_start f 0
+onward n left (In f k) = cond (left == 0) (behind n f k) (inside f k)
+
 abbrev pub where_next : {S : Type 0} → Local S → ℕ → Dispatcher S → Where
-where_next m n d = cond d.loaded (cond (m.left d.scheduler == 0) (behind n d.frame d.interval) (inside d.frame d.interval)) (at_start d.frame d.interval)
+where_next m n d = onward n (m.left d.scheduler) d.place
 
 -- a slice in interval k of frame f, handed out by the scheduler in the state s
 pub record Out {S : Type 0} (m : Local S) (card : Card) (h f k : ℕ) (first : Bool) (s : S) (z : Stamped) (d d' : Dispatcher S) : Type 0 where
   pub handed : Handed m s z.slice d'.scheduler
   pub stamp : z.stamp ≡ stamp_of h f (begins card h (k + 1) - m.left s)
   pub placement : d'.placement ≡ d.placement
-  pub frame : d'.frame ≡ f
-  pub interval : d'.interval ≡ k
-  pub loaded : d'.loaded ≡ true
+  pub place : d'.place ≡ In f k
   pub books : Entered card d.books first (begins card h (k + 1) - m.left s) z.slice d'.books
 
 abbrev pub Answers : {S : Type 0} → Local S → Card → Sheet → ℕ → Dispatcher S → Result Stamped DispatchFault → Dispatcher S → Where → Type 0

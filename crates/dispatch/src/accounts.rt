@@ -1,6 +1,7 @@
 // How the books are opened, and how a slice is entered in them.
 ghost use Rattle.std.specs.Prelude.{◌≡◌, ℕ, ◌+◌, ◌*◌, ◌%◌, ◌<◌, ◌≤◌, not, ◌&&◌, [], get_or, if◌then◌else◌, count_by, ◌==◌, nat_eq, slice_index_or, slice_set};
-ghost use Rattle.dispatch.specs.Counts.{changed};
+ghost use Rattle.std.specs.List.{zip};
+ghost use Rattle.dispatch.specs.Counts.{changed, switches_core};
 ghost use Rattle.dispatch.specs.Books.{nothing, paid, anew, tallied, Opened, paid_to, Entered};
 ghost use Rattle.local.specs.Meaning.{seated};
 ghost use Rattle.sheet.specs.Held.{held, count_in, task_in, Holds};
@@ -11,19 +12,23 @@ use crate::books::{Account, Books};
 use card::Task;
 use local::Slice;
 use sheet::Placement;
+use std::array;
+
+// Nothing given of a run time.
+fn owed(run_time: u32) -> Account
+    ensures { result ≡ record { given = 0; owed = run_time } }
+{
+    Account {
+        given: 0,
+        owed: run_time,
+    }
+}
 
 // The accounts at the start: nothing given, the run times owed.
 pub(crate) fn opened(placement: &Placement) -> [Account; 32]
     ensures { Opened placement.now result }
 {
-    let mut accounts = [Account { given: 0, owed: 0 }; 32];
-    for i in 0..32 {
-        accounts[i] = Account {
-            given: 0,
-            owed: placement.task(i).run_time,
-        };
-    }
-    accounts
+    array::from_fn(|i| owed(placement.task(i).run_time))
 }
 
 // Books with no slice in them.
@@ -48,27 +53,26 @@ fn renews(first: bool, tick: u32, task: Task) -> bool
     first && tick % task.period == 0
 }
 
-// One where a core is seated with a task that it did not have.
-fn switched(before: u8, seat: u8) -> u32
-    ensures value { result ≡ (if not (seat == 0) && not (seat == before) then 1 else 0) }
-    ensures bound { result ≤ 1 }
+// Whether a core is seated with a task that it did not have.
+fn is_switch(before: u8, seat: u8) -> bool
+    ensures { result ≡ (not (seat == 0) && not (seat == before)) }
 {
-    if seat != 0 && seat != before { 1 } else { 0 }
+    seat != 0 && seat != before
 }
 
-fn switches(before: &[u8; 16], seats: &[u8; 16]) -> u32
-    ensures count { result ≡ changed before.now seats.now }
-    ensures few { result ≤ 16 }
+// How many cores switch, of those side by side.
+fn switches(before: &[u8], seats: &[u8]) -> usize
+    ensures { result ≡ count_by switches_core (zip before.now seats.now) }
 {
-    let mut count = 0;
-    for c in 0..16 {
-        count += switched(before[c], seats[c]);
-    }
-    count
+    before
+        .iter()
+        .zip(seats)
+        .filter(|(before, seat)| is_switch(**before, **seat))
+        .count()
 }
 
 // The switches into a slice with these seats; where it begins an interval every seated core counts.
-fn switches_to(seats: &[u8; 16], first: bool, before: &[u8; 16]) -> u32
+fn switches_to(seats: &[u8; 16], first: bool, before: &[u8; 16]) -> usize
     ensures { result ≡ changed (if first then [] else before.now) seats.now }
 {
     if first {
@@ -78,30 +82,19 @@ fn switches_to(seats: &[u8; 16], first: bool, before: &[u8; 16]) -> u32
     }
 }
 
-fn hit(task: u8, seat: u8) -> u32
-    ensures value { result ≡ (if nat_eq task seat then 1 else 0) }
-    ensures bound { result ≤ 1 }
-{
-    if task == seat { 1 } else { 0 }
-}
-
 // How many cores are seated with a task.
-fn seats_of(seats: &[u8; 16], task: u8) -> u32
+fn seats_of(seats: &[u8; 16], task: u8) -> usize
     ensures count { result ≡ count_by (nat_eq task) seats.now }
     ensures few { result ≤ 16 }
 {
-    let mut count = 0;
-    for seat in seats {
-        count += hit(task, *seat);
-    }
-    count
+    seats.iter().filter(|seat| **seat == task).count()
 }
 
 // The ticks that a slice gives to a task.
 fn ticks_for(slice: &Slice, task: u8) -> u64
     ensures { result ≡ seated slice.now task * slice.now.length }
 {
-    u64::from(seats_of(&slice.seats, task)) * u64::from(slice.length)
+    seats_of(&slice.seats, task) as u64 * u64::from(slice.length)
 }
 
 impl Account {
@@ -143,6 +136,7 @@ impl Books {
         ensures busy { self.new.busy ≡ self.old.busy }
         ensures seats { self.new.seats ≡ self.old.seats }
     {
+        // Kept: the number names the account and the task, and a placement tells one task at a time.
         for i in 0..placement.task_count() {
             let task = placement.task(usize::from(i));
             let ticks = ticks_for(slice, i + 1);
@@ -157,7 +151,7 @@ impl Books {
         self.pay_all(placement, first, tick, slice);
         let switches = switches_to(&slice.seats, first, &self.seats);
         self.slices = self.slices.saturating_add(1);
-        self.switches = self.switches.saturating_add(u64::from(switches));
+        self.switches = self.switches.saturating_add(switches as u64);
         self.busy = self
             .busy
             .saturating_add(u64::from(slice.length) * u64::from(slice.busy_cores()));

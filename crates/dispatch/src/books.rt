@@ -1,5 +1,4 @@
 // What a dispatcher keeps of the slices that it handed out.
-ghost use Rattle.std.specs.Prelude.{◌≡◌, length};
 
 // Ticks given to a task's current job and still owed to it, together its run time.
 #[derive(Clone, Copy)]
@@ -16,5 +15,4 @@ pub struct Books {
     pub(crate) busy: u64,
     // The seats of the last slice.
     pub(crate) seats: [u8; 16],
-    ghost table: { length accounts ≡ 32 },
 }

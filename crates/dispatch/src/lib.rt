@@ -6,7 +6,8 @@ ghost use Rattle.card.specs.Cards.{span, tasks_of};
 ghost use Rattle.card.specs.Lawful.{Exactly, Lawful};
 ghost use Rattle.card.specs.Verdicts.{fine, frame_of, judged_card};
 ghost use Rattle.dispatch.specs.Counts.{stamp_of};
-ghost use Rattle.dispatch.specs.Moves.{target, Advanced};
+ghost use Rattle.dispatch.specs.Moves.{Advanced};
+ghost use Rattle.dispatch.specs.declared.place.Place.TheVariants.{Before, In};
 ghost use Rattle.dispatch.specs.Promise.{Promise, Promised};
 ghost use Rattle.dispatch.specs.Runs.Call.{next_slice, account, tally};
 ghost use Rattle.dispatch.specs.Runs.{Begun, Call, Does, Out, Run, where_next};
@@ -20,6 +21,7 @@ ghost use Rattle.dispatch.specs.Launched.{Launched};
 
 use crate::accounts::{blank, opened};
 use crate::books::Books;
+use crate::place::Place;
 use card::Card;
 use local::{LocalScheduler, Slice};
 use refusal::{DispatchFault, SheetFault};
@@ -27,6 +29,7 @@ use sheet::{Placement, Sheet};
 
 mod accounts;
 mod books;
+mod place;
 mod state;
 
 pub use state::Dispatcher;
@@ -43,22 +46,6 @@ fn stamp(frame: u32, length: u32, tick: u32) -> u64
     ensures { result ≡ stamp_of length frame tick }
 {
     u64::from(frame) * u64::from(length) + u64::from(tick)
-}
-
-// The frame and the interval to load next; none behind the last frame of all.
-fn next_interval(loaded: bool, count: u8, frame: u32, interval: u8) -> Option<(u32, u8)>
-    ensures { result ≡ target loaded count frame interval }
-{
-    if !loaded {
-        return Some((frame, interval));
-    }
-    if u16::from(interval) + 1 < u16::from(count) {
-        return Some((frame, interval + 1));
-    }
-    if frame < u32::MAX {
-        return Some((frame + 1, 0));
-    }
-    None
 }
 
 // The shares of an interval.
@@ -82,10 +69,9 @@ fn load_interval<S: LocalScheduler>(scheduler: &mut S, placement: &Placement, in
     ensures { (card : Card) (sheet : Sheet) → Holds placement.now card sheet → Loaded S.meaning scheduler.old card.cores (span card (frame_of (tasks_of card)) interval) (row sheet interval) scheduler.new }
 {
     let length = length_of(placement, interval);
-    match scheduler.load(placement.cores(), length, row_of(placement, interval)) {
-        Ok(()) => {}
-        Err(_) => unreachable(),
-    }
+    scheduler
+        .load(placement.cores(), length, row_of(placement, interval))
+        .unwrap();
 }
 
 // Takes the scheduler's choice.
@@ -93,10 +79,7 @@ fn take_choice<S: LocalScheduler>(scheduler: &mut S) -> Slice
     requires { 1 ≤ S.meaning.left scheduler.old }
     ensures { Handed S.meaning scheduler.old result scheduler.new }
 {
-    match scheduler.next() {
-        Ok(slice) => slice,
-        Err(_) => unreachable(),
-    }
+    scheduler.next().unwrap()
 }
 
 impl<S: LocalScheduler> Dispatcher<S> {
@@ -113,15 +96,13 @@ impl<S: LocalScheduler> Dispatcher<S> {
     fn at(placement: Placement, scheduler: S, frame: u32, books: Books) -> Dispatcher<S>
         ensures placement { result.placement ≡ placement }
         ensures scheduler { result.scheduler ≡ scheduler }
-        ensures place { (result.frame ≡ frame) × (result.interval ≡ 0) × (result.loaded ≡ false) }
+        ensures place { result.place ≡ Before frame }
         ensures books { result.books ≡ books }
     {
         Dispatcher {
             placement,
             scheduler,
-            frame,
-            interval: 0,
-            loaded: false,
+            place: Place::Before(frame),
             books,
         }
     }
@@ -146,38 +127,36 @@ impl<S: LocalScheduler> Dispatcher<S> {
         Ok(Dispatcher::start(placement, scheduler, first))
     }
 
-    // Loads the next interval where one is to begin, and tells whether it did.
-    fn advance(&mut self) -> Result<bool, DispatchFault>
+    // Goes to the next slice, loads its interval where it begins one, and tells frame and interval and whether it does.
+    fn advance(&mut self) -> Result<(u32, u8, bool), DispatchFault>
         requires { 1 ≤ rows_in (held self.old.placement) }
         ensures { (card : Card) (sheet : Sheet) → Holds self.old.placement card sheet → Advanced S.meaning card sheet (frame_of (tasks_of card)) self.old result self.new (where_next S.meaning sheet.rows self.old) }
     {
-        if self.loaded && self.scheduler.ticks_left() > 0 {
-            return Ok(false);
+        if let Place::In(frame, interval) = self.place {
+            if self.scheduler.ticks_left() > 0 {
+                return Ok((frame, interval, false));
+            }
         }
-        let count = self.placement.interval_count();
-        let Some((frame, interval)) = next_interval(self.loaded, count, self.frame, self.interval)
-        else {
+        let Some((frame, interval)) = self.place.next(self.placement.interval_count()) else {
             return Err(DispatchFault::LastFrame);
         };
         load_interval(&mut self.scheduler, &self.placement, interval);
-        self.frame = frame;
-        self.interval = interval;
-        self.loaded = true;
-        Ok(true)
+        self.place = Place::In(frame, interval);
+        Ok((frame, interval, true))
     }
 
-    // Hands out the scheduler's choice, stamps it and enters it in the books.
-    fn hand_out(&mut self, first: bool) -> Stamped
-        requires loaded { self.old.loaded ≡ true }
+    // Hands out the scheduler's choice in an interval, stamps it and enters it in the books.
+    fn hand_out(&mut self, frame: u32, interval: u8, first: bool) -> Stamped
+        requires place { self.old.place ≡ In frame interval }
         requires left { 1 ≤ S.meaning.left self.old.scheduler }
-        ensures { (card : Card) (sheet : Sheet) → Holds self.old.placement card sheet → Out S.meaning card (frame_of (tasks_of card)) self.old.frame self.old.interval first self.old.scheduler result self.old self.new }
+        ensures { (card : Card) (sheet : Sheet) → Holds self.old.placement card sheet → Out S.meaning card (frame_of (tasks_of card)) frame interval first self.old.scheduler result self.old self.new }
     {
-        let end = self.placement.start(usize::from(self.interval) + 1);
+        let end = self.placement.start(usize::from(interval) + 1);
         let tick = end.saturating_sub(self.scheduler.ticks_left());
         let slice = take_choice(&mut self.scheduler);
         self.books.enter(&self.placement, first, tick, &slice);
         Stamped {
-            stamp: stamp(self.frame, self.placement.frame(), tick),
+            stamp: stamp(frame, self.placement.frame(), tick),
             slice,
         }
     }
@@ -189,15 +168,15 @@ impl<S: LocalScheduler> Dispatcher<S> {
         if self.placement.is_empty() {
             return Err(DispatchFault::Empty);
         }
-        let first = self.advance()?;
-        Ok(self.hand_out(first))
+        let (frame, interval, first) = self.advance()?;
+        Ok(self.hand_out(frame, interval, first))
     }
 
     // Ticks given and still owed to the job of a task, by its number from 1, whose window holds the last slice.
     pub fn account(&self, task: u32) -> Result<(u32, u32), DispatchFault>
         ensures { Does S.meaning self.now (account task result) self.now }
     {
-        if task < 1 || task > u32::from(self.placement.task_count()) {
+        if !(1..=u32::from(self.placement.task_count())).contains(&task) {
             return Err(DispatchFault::NoTask);
         }
         let account = self.books.accounts[(task - 1) as usize];

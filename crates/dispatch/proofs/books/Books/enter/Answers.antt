@@ -14,7 +14,7 @@ returns c = λ card sheet h.
     record {
       accounts = λ i l. before.accounts i (subst (λ (o : Option (Card × Sheet)). i < count_in o) (sym h) l) ∙ ap (λ (o : Option (Card × Sheet)). paid_to b c.args.first c.args.tick z i (task_in o i)) h;
       slices = c.saturating_add-self.ensures ∙ ap (λ (n : ℕ). tallied (n + 1)) before.slices;
-      switches = c.saturating_add-self-2.ensures ∙ ap (λ (n : ℕ). tallied (c.pay_all.new.self.switches + n)) (c.from.ensures ∙ c.switches_to-switches.ensures ∙ ap (λ (s : List ℕ). changed (cond c.args.first [] s) z.seats) before.seats) ∙ ap (λ (n : ℕ). tallied (n + changed (cond c.args.first [] b.seats) z.seats)) before.switches;
-      busy = c.saturating_add-self-3.ensures ∙ ap (λ (n : ℕ). tallied (n + c.from-2.result * c.from-3.result)) before.busy ∙ ap (λ (n : ℕ). tallied (b.busy + n * c.from-3.result)) c.from-2.ensures ∙ ap (λ (n : ℕ). tallied (b.busy + z.length * n)) (c.from-3.ensures ∙ c.busy_cores.ensures.ones);
+      switches = c.saturating_add-self-2.ensures ∙ ap (λ (n : ℕ). tallied (c.pay_all.new.self.switches + n)) (c.switches_to-switches.ensures ∙ ap (λ (s : List ℕ). changed (cond c.args.first [] s) z.seats) before.seats) ∙ ap (λ (n : ℕ). tallied (n + changed (cond c.args.first [] b.seats) z.seats)) before.switches;
+      busy = c.saturating_add-self-3.ensures ∙ ap (λ (n : ℕ). tallied (n + c.from.result * c.from-2.result)) before.busy ∙ ap (λ (n : ℕ). tallied (b.busy + n * c.from-2.result)) c.from.ensures ∙ ap (λ (n : ℕ). tallied (b.busy + z.length * n)) (c.from-2.ensures ∙ c.busy_cores.ensures.ones);
       seats = refl;
     }

@@ -3,7 +3,7 @@ use native.Mathlib.Nat as law
 use Rattle.card.specs.declared.types.Task.{Task}
 use Rattle.local.specs.Meaning.{seated}
 use Rattle.sheet.specs.Held.{held, count_in, task_in}
-use Rattle.std.proofs.lemmas.List.{get_or-set_same, get_or-set_other}
+use Rattle.std.proofs.lemmas.List.{get_or-set_same, get_or-set_other, length-set}
 use Rattle.dispatch.specs.declared.books.Account.{Account}
 use Rattle.dispatch.specs.Books.{nothing, paid, paid_to, anew}
 use Rattle.dispatch.proofs.Filled.{period_there, few_there}
@@ -23,7 +23,7 @@ loop-i-preserved c =
     let i = c.loop-i.i in
     let z = c.args.slice.now in
     let here : i < count_in (held p) = omega (arith, c.loop-i-test.true, c.task_count-i-end.ensures) in
-    let there : i < length xs = omega (arith, here, few_there p, c.loop-i.self.table) in
+    let there : i < length xs = omega (arith, here, few_there p, c.loop-i.invariant.6) in
     let task : c.task-task.result ≡ task_in (held p) i = c.task-task.ensures ∙ ap (task_in (held p)) c.from.ensures in
     let pays : Task → Bool → Account → ℕ → Account = λ t b a n. paid t.run_time (cond b t.run_time a.owed) n in
     let v : Account = pays c.task-task.result c.renews.result (get_or xs c.from-in-loop-i.result nothing) c.ticks_for-ticks.result in
@@ -45,4 +45,5 @@ loop-i-preserved c =
       c.pay.ensures.switches ∙ c.loop-i.invariant.3,
       c.pay.ensures.busy ∙ c.loop-i.invariant.4,
       c.pay.ensures.seats ∙ c.loop-i.invariant.5,
+      ap length after ∙ length-set xs i v ∙ c.loop-i.invariant.6,
     )

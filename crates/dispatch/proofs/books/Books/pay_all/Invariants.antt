@@ -1,5 +1,5 @@
 -- The accounts in front of the index are paid, and the others are as they were.
-use Rattle.std.proofs.Common.{◌≡◌, ℕ, ◌<◌, ◌≤◌, get_or}
+use Rattle.std.proofs.Common.{◌≡◌, ℕ, ◌<◌, ◌≤◌, length, get_or}
 use Rattle.sheet.specs.Held.{held, task_in}
 use Rattle.dispatch.specs.Books.{nothing, paid_to}
 use Rattle.dispatch.proofs.books.Books.pay_all.Given as goal
@@ -12,3 +12,4 @@ invariant-loop-i l =
     × (l.self.switches ≡ l.initial.self.switches)
     × (l.self.busy ≡ l.initial.self.busy)
     × (l.self.seats ≡ l.initial.self.seats)
+    × (length l.self.accounts ≡ 32)

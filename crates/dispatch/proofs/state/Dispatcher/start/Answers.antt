@@ -15,7 +15,7 @@ returns g c =
     let books : d.books ≡ c.blank-books.result = e.books in
     let opened : Opened p d.books.accounts = subst (Opened p) (sym (ap (λ (b : Books). b.accounts) books ∙ c.blank-books.ensures.accounts)) c.opened.ensures in
     let zero = c.blank-books.ensures.zero in
-    let begun : Begun p c.args.scheduler c.args.first d = begun_of e.placement e.scheduler e.place.0 e.place.1 e.place.2 (ap (λ (b : Books). b.slices) books ∙ zero.0, ap (λ (b : Books). b.switches) books ∙ zero.1, ap (λ (b : Books). b.busy) books ∙ zero.2) opened in
+    let begun : Begun p c.args.scheduler c.args.first d = begun_of e.placement e.scheduler e.place (ap (λ (b : Books). b.slices) books ∙ zero.0, ap (λ (b : Books). b.switches) books ∙ zero.1, ap (λ (b : Books). b.busy) books ∙ zero.2) opened in
     let early : c.args.first < 2 ^ 32 = search rules in
     record {
       begun = begun;
