@@ -88,6 +88,7 @@ impl<'a> Reader<'a> {
     }
 
     // The card and the sheet. With the note they give the same bytes again.
+    #[tactic(auto, using(crate::proofs::Whole::whole))]
     pub fn read(&self) -> Result<(Card, Sheet), FileFault>
         ensures judged { MatchResult result (λ p. (judged_file self.now.bytes.now ≡ fine) × CardRead self.now.bytes.now p.0 × SheetRead self.now.bytes.now p.1) (λ e. file_told e ≡ numbered (judged_file self.now.bytes.now)) }
         ensures when { is_ok result ≡ ((judged_file self.now.bytes.now).0 == 0) }
