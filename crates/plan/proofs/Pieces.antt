@@ -1,7 +1,8 @@
 -- Pieces of equal width, written one after the other.
-use Rattle.std.proofs.Common.{◌≡◌, ℕ, ◌+◌, ◌*◌, ◌<◌, ◌≤◌, List, [], ◌∷◌, ◌++◌, map, length, get_or, take, drop, sym, refl, ap, ◌∙◌, add-zero, add-mul, mul-zero, mul-suc, arith, take-add}
+use Rattle.std.proofs.Common.{◌≡◌, ℕ, ◌+◌, ◌*◌, ◌<◌, ◌≤◌, List, [], ◌∷◌, ◌++◌, map, length, get_or, take, drop, sym, ap, ◌∙◌, add-zero, add-mul, mul-zero, mul-suc, arith, take-add}
 use Rattle.std.specs.List.{flat_map}
-use Rattle.std.proofs.lemmas.List.{append_assoc, append-nil, length-append, length-take-le, map-append, take-append-drop, take_more}
+use Rattle.std.proofs.lemmas.List.{append-nil, length-append, length-take-le, map-append, take-append-drop, take_more}
+use Rattle.std.proofs.lemmas.Grind.{flat_map-append}
 use Rattle.plan.specs.Plans.{written}
 use Rattle.plan.proofs.Written.{written_both}
 
@@ -13,10 +14,6 @@ length_joined w enc wide (x ∷ xs) = length-append (enc x) (flat_map enc xs) �
 pub none_yet : (out : List ℕ) (at : ℕ) → out ≡ written out at []
 none_yet out at = sym (take-append-drop at out) ∙ ap (λ (k : ℕ). take at out ++ drop k out) (sym (add-zero at))
 
-joined_append : {X : Type 0} (enc : X → List ℕ) (xs ys : List X) → flat_map enc (xs ++ ys) ≡ flat_map enc xs ++ flat_map enc ys
-joined_append enc [] ys = refl
-joined_append enc (x ∷ xs) ys = ap (λ l. enc x ++ l) (joined_append enc xs ys) ∙ sym (append_assoc (enc x) (flat_map enc xs) (flat_map enc ys))
-
 -- some pieces more
 pub some_more : {X : Type 0} (w : ℕ) (enc : X → List ℕ) (dec : List ℕ → X) (out mid new : List ℕ) (at next : ℕ) (front part both : List X)
     → ((y : X) → length (enc y) ≡ w) → both ≡ front ++ part → at ≤ length out → next ≡ at + w * length front
@@ -25,7 +22,7 @@ pub some_more : {X : Type 0} (w : ℕ) (enc : X → List ℕ) (dec : List ℕ �
     → (new ≡ written out at (flat_map enc both)) × (map (λ y. dec (enc y)) both ≡ both)
 some_more w enc dec out mid new at next front part both wide all room place so same is back = (
   is ∙ ap (λ l. written l next (flat_map enc part)) so ∙ written_both out (flat_map enc front) (flat_map enc part) at next room (omega (arith, length_joined w enc wide front))
-      ∙ ap (written out at) (sym (joined_append enc front part) ∙ ap (flat_map enc) (sym all)),
+      ∙ ap (written out at) (sym (flat_map-append enc front part) ∙ ap (flat_map enc) (sym all)),
   ap (map (λ y. dec (enc y))) all ∙ map-append (λ y. dec (enc y)) front part ∙ ap (λ l. l ++ map (λ y. dec (enc y)) part) same ∙ ap (λ l. front ++ l) back ∙ sym all,
 )
 

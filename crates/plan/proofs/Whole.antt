@@ -2,9 +2,12 @@
 use Rattle.std.proofs.Common.{◌≡◌, ℕ, ◌+◌, ◌-◌, ◌*◌, List, ◌++◌, length, take, drop, sym, ap, ◌∙◌, arith}
 use Rattle.std.specs.List.{flat_map}
 use Rattle.std.proofs.lemmas.List.{drop-drop, take-append-drop, length-take-le}
-use Rattle.card.specs.declared.types.Task.{Task}
+use Rattle.card.specs.declared.types.Card.{Card}
+use Rattle.card.specs.Cards.{tasks_of}
+use Rattle.sheet.specs.declared.types.Sheet.{Sheet}
 use Rattle.plan.specs.declared.trailer.Trailer.{Trailer}
-use Rattle.plan.specs.File.{bytes_of, card_at, cores_in, count_in, entry_bytes, entry_of, file_of, note_in, rows_in, shares_in, sheet_at, tasks_in, trailer_bytes}
+use Rattle.plan.specs.File.{bytes_of, card_at, count_in, entry_bytes, entry_of, note_in, rows_in, sheet_at, trailer_bytes}
+use Rattle.plan.specs.Plans.{CardRead, SheetRead, file_for}
 use Rattle.plan.specs.Trailers.{Agrees, Read}
 use Rattle.plan.proofs.Agreed.{layout}
 use Rattle.plan.proofs.Parts.{length_parts}
@@ -21,18 +24,14 @@ same_trailer {c = c} {s = s} {m = m} {n = n} {k = k} {c' = c'} {s' = s'} {m' = m
 joint : (note : List ℕ) {e e' s s' f f' : List ℕ} → e ≡ e' → s ≡ s' → f ≡ f' → note ++ (e ++ (s ++ f)) ≡ note ++ (e' ++ (s' ++ f'))
 joint note p q r = cc
 
-pub whole : (bs : List ℕ) (t : Trailer) (m k : ℕ) (tasks : List Task) (shares : List ℕ) → Read bs t → Agrees (length bs) t
-    → m ≡ cores_in bs → tasks ≡ tasks_in bs → k ≡ rows_in bs → shares ≡ shares_in bs
-    → flat_map entry_bytes (tasks_in bs) ≡ take (8 * count_in bs) (drop (card_at bs) bs)
-    → flat_map (bytes_of 4) (shares_in bs) ≡ take (4 * (rows_in bs * count_in bs)) (drop (sheet_at bs) bs)
-    → file_of (note_in bs) m tasks k shares ≡ bs
-whole bs t m k tasks shares r agrees cores is rows are entries cells =
+pub whole : (bs : List ℕ) (t : Trailer) (card : Card) (sheet : Sheet) → Read bs t → Agrees (length bs) t → CardRead bs card → SheetRead bs sheet → file_for (note_in bs) card sheet ≡ bs
+whole bs t card sheet r agrees is are =
     let laid = layout (length bs) t.card t.sheet t.count t.rows agrees.layout in
     let same : t.rows * t.count ≡ rows_in bs * count_in bs = cc (r.rows, r.count) in
     let note : length (note_in bs) ≡ t.card = length-take-le (card_at bs) bs (omega (arith, r.card, r.sheet)) ∙ sym r.card in
-    let size : length tasks ≡ t.count = ap length is ∙ length_parts 8 entry_of (count_in bs) (drop (card_at bs) bs) ∙ sym r.count in
+    let size : length (tasks_of card) ≡ t.count = ap length is.tasks ∙ length_parts 8 entry_of (count_in bs) (drop (card_at bs) bs) ∙ sym r.count in
     let from_sheet = cut bs (sheet_at bs) (4 * (rows_in bs * count_in bs)) (length bs - 12) (omega (arith, r.sheet)) in
     let from_card = cut bs (card_at bs) (8 * count_in bs) (sheet_at bs) (omega (arith, r.sheet, r.card, r.count)) in
-    let foot = same_trailer note (omega arith) (cores ∙ sym r.cores) size (rows ∙ sym r.rows) ∙ r.back in
-    joint (note_in bs) (ap (flat_map entry_bytes) is ∙ entries) (ap (flat_map (bytes_of 4)) are ∙ cells) foot
+    let foot = same_trailer note (omega arith) (is.cores ∙ sym r.cores) size (are.rows ∙ sym r.rows) ∙ r.back in
+    joint (note_in bs) (ap (flat_map entry_bytes) is.tasks ∙ is.back) (ap (flat_map (bytes_of 4)) are.shares ∙ are.back) foot
     ∙ ap (λ l. note_in bs ++ (take (8 * count_in bs) (drop (card_at bs) bs) ++ l)) from_sheet ∙ ap (λ l. note_in bs ++ l) from_card ∙ take-append-drop (card_at bs) bs

@@ -9,7 +9,7 @@ ghost use Rattle.std.specs.List.{flat_map};
 
 use crate::coding::{Coded, NO_TASK};
 use crate::trailer::{MAX_ROWS, MAX_TASKS, Trailer};
-use card::Card;
+use card::{Card, Task};
 use refusal::FileFault;
 use sheet::Sheet;
 
@@ -67,7 +67,7 @@ impl<'a> Reader<'a> {
         ensures answers { IsTrue (is_ok result) }
     {
         let t = self.trailer;
-        let tasks = read_all(
+        let tasks: [Task; TASKS] = read_all(
             &self.bytes[t.card as usize..],
             usize::from(t.count),
             NO_TASK,
@@ -83,11 +83,12 @@ impl<'a> Reader<'a> {
         ensures answers { IsTrue (is_ok result) }
     {
         let t = self.trailer;
-        let shares = read_all(&self.bytes[t.sheet as usize..], t.cells(), 0);
+        let shares: [u32; SHARES] = read_all(&self.bytes[t.sheet as usize..], t.cells(), 0);
         Sheet::new(t.rows, t.count, &shares)
     }
 
     // The card and the sheet. With the note they give the same bytes again.
+    #[tactic(auto, using(crate::proofs::Whole::whole))]
     pub fn read(&self) -> Result<(Card, Sheet), FileFault>
         ensures judged { MatchResult result (λ p. (judged_file self.now.bytes.now ≡ fine) × CardRead self.now.bytes.now p.0 × SheetRead self.now.bytes.now p.1) (λ e. file_told e ≡ numbered (judged_file self.now.bytes.now)) }
         ensures when { is_ok result ≡ ((judged_file self.now.bytes.now).0 == 0) }

@@ -30,6 +30,7 @@ fn put_rows(sheet: &Sheet, at: usize, out: &mut [u8])
     ensures back { map (λ x. number_of (bytes_of 4 x)) (shares_of sheet.now) ≡ shares_of sheet.now }
 {
     let count = usize::from(sheet.count());
+    // Kept: a sheet tells its rows by number alone (`Sheet::row`), so no iterator stands for k.
     for k in 0..usize::from(sheet.rows()) {
         put_all(sheet.row(k), at + u32::WIDTH * (k * count), out);
     }

@@ -1,22 +1,10 @@
-use Rattle.std.proofs.Common.{◌≡◌, ℕ, ◌+◌, ◌*◌, ◌≤◌, cond, List, [], ◌++◌, take, sym, refl, ap, ◌∙◌, mul-le-mul_right, add-mul, mul-le-mul, zero-mul, arith}
-use Rattle.std.specs.List.{flat_map}
+use Rattle.std.proofs.Common.{◌≡◌, ℕ, ◌*◌, ◌≤◌, cond, [], ◌++◌, take, sym, refl, ap, ◌∙◌, mul-le-mul, arith}
 use Rattle.std.proofs.lemmas.List.{length-take-le}
 use Rattle.std.proofs.lemmas.Bool.{lt-ltb}
 use Rattle.sheet.specs.Sheets.{row}
 use Rattle.plan.specs.File.{bytes_of, number_of}
-use Rattle.plan.specs.Plans.{shares_of, written}
-use Rattle.plan.proofs.Pieces.{none_yet, row_more, some_more}
+use Rattle.plan.proofs.Pieces.{row_more, some_more}
 use Rattle.plan.proofs.writer.put_rows.Goals as goal
-
-pub loop-k-init : goal.loop-k-init
-loop-k-init c = rw zero-mul (none_yet c.args.out.now c.args.at, refl)
-
-pub put_all-requires : goal.put_all-requires
-put_all-requires c =
-    let sheet = c.args.sheet.now in
-    let k = c.loop-k.k in
-    let same : k * c.from-count.result ≡ k * sheet.count = ap (λ (n : ℕ). k * n) (c.from-count.ensures ∙ c.count.ensures) in
-    omega (arith, same, c.row.ensures.size, ap (λ b. cond b sheet.count 0) (lt-ltb k sheet.rows (omega arith)), add-mul k 1 sheet.count, mul-le-mul_right {m = k + 1} {n = sheet.rows} sheet.count (omega arith))
 
 pub loop-k-preserved : goal.loop-k-preserved
 loop-k-preserved c =
@@ -30,14 +18,3 @@ loop-k-preserved c =
     some_more 4 (bytes_of 4) number_of c.args.out.now c.loop-k.out _ c.args.at _ front c.row.result.now _ (λ y. refl)
     (row_more sheet.shares k sheet.count ∙ ap (λ l. front ++ l) (sym here)) (omega arith)
     (omega (arith, same, length-take-le (k * sheet.count) sheet.shares (omega arith))) c.loop-k.invariant.0 c.loop-k.invariant.1 c.put_all.ensures.is c.put_all.ensures.back
-
-pub returns : goal.returns
-returns c =
-    let sheet = c.args.sheet.now in
-    let k = c.loop-k.k in
-    let end : k ≡ sheet.rows = omega arith in
-    let all : take (k * sheet.count) sheet.shares ≡ shares_of sheet = ap (λ (n : ℕ). take (n * sheet.count) sheet.shares) end in
-    record {
-      is = c.loop-k.invariant.0 ∙ ap (λ (l : List ℕ). written c.args.out.now c.args.at (flat_map (bytes_of 4) l)) all;
-      back = rw all at c.loop-k.invariant.1;
-    }
