@@ -91,6 +91,7 @@ fn lower(cores: &mut [Running], ticks: u32)
     }
 }
 
+// Kept: that the state is held stands in the contracts of whole passages, since a part of one breaks it, so that it is no ghost field.
 impl Tables {
     // The amount on the first core of the core queue.
     fn first_amount(&self) -> Option<u32>

@@ -55,21 +55,11 @@ impl Tables {
         requires { amount (view self.now) task ≤ self.now.left }
         ensures { result ≡ amount (view self.now) task }
     {
-        let running: u32 = self
-            .running
-            .iter()
-            .map(|core| part_of(task, core.task, core.amount))
-            .sum();
-        let waiting: u32 = self
-            .waiting
-            .iter()
-            .map(|waiting| part_of(task, waiting.task, waiting.amount))
-            .sum();
-        let taken: u32 = self
-            .taken
-            .iter()
-            .map(|core| part_of(task, core.task, core.amount))
-            .sum();
+        let on_core = |core: &Running| part_of(task, core.task, core.amount);
+        let in_queue = |waiting: &Waiting| part_of(task, waiting.task, waiting.amount);
+        let running: u32 = self.running.iter().map(on_core).sum();
+        let waiting: u32 = self.waiting.iter().map(in_queue).sum();
+        let taken: u32 = self.taken.iter().map(on_core).sum();
         running + waiting + taken
     }
 }

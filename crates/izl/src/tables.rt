@@ -16,6 +16,7 @@ pub(crate) struct Tables {
 }
 
 // What happens at the end of a passage.
+// Kept: its time passes first, so that what happens then has to be told before it is done.
 #[derive(Clone, Copy)]
 pub(crate) enum Kind {
     TakeOver,

@@ -5,9 +5,6 @@ use Rattle.izl_rule.proofs.Handing.{after_sound}
 use Rattle.izl.proofs.Telling.{told_handed, busy}
 use Rattle.izl.proofs.state.Izl.hand_out.Goals as goal
 
-pub step-requires : goal.step-requires
-step-requires c = c.self.invariant.held
-
 pub invariant_of-self : goal.invariant_of-self
 invariant_of-self c = subst Sound (sym (c.step.ensures.does ∙ ap after c.self.view_is)) (after_sound c.args.self.now (subst Sound c.self.view_is c.self.invariant) c.requires)
 

@@ -1,9 +1,9 @@
-use Rattle.std.proofs.Common.{◌≡◌, ℕ, ◌≤◌, sym, ap, ◌∙◌, subst, arith}
+use Rattle.std.proofs.Common.{ℕ, ◌≤◌, sym, subst, arith}
 use Rattle.std.specs.List.{AllByRecursion}
 use Rattle.izl_rule.specs.declared.Running.{Running}
 use Rattle.izl_rule.specs.Rule.{State}
 use Rattle.izl_rule.proofs.Times.{time_left, running_enough, taken_enough}
-use Rattle.izl.specs.View.{view, turned}
+use Rattle.izl.specs.View.{view}
 use Rattle.izl.proofs.ByKind.{still}
 use Rattle.izl.proofs.tables.Tables.advance.Goals as goal
 
@@ -18,6 +18,3 @@ pass-requires c =
 
 pub turn-requires : goal.turn-requires
 turn-requires c = still (view c.args.self.now) _ _ _ c.coming-ticks.ensures.able c.pass.ensures
-
-pub returns : goal.returns
-returns c = c.turn.ensures ∙ ap (turned _) c.pass.ensures ∙ sym c.coming-ticks.ensures.does

@@ -1,4 +1,4 @@
-use Rattle.std.proofs.Common.{◌<◌, List, ap, ◌∙◌, sym, subst}
+use Rattle.std.proofs.Common.{◌<◌, ap, ◌∙◌, sym, subst}
 use Rattle.std.specs.List.{AllByRecursion}
 use Rattle.izl_rule.specs.declared.Running.{Running}
 use Rattle.izl.specs.View.{view, seated_over}

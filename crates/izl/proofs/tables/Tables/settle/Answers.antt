@@ -1,4 +1,4 @@
-use Rattle.std.proofs.Common.{◌+◌, ◌-◌, ◌<◌, ap, sym, ◌∙◌, subst, arith}
+use Rattle.std.proofs.Common.{◌+◌, ◌-◌, ap, sym, ◌∙◌, subst}
 use Rattle.izl_rule.specs.Rule.{State, ready}
 use Rattle.izl_rule.specs.Invariant.{Held, merged}
 use Rattle.izl_rule.proofs.Passages.{a_passage}
