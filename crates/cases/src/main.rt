@@ -1,12 +1,13 @@
 // Refusals of cards, sheets and loads, one line each, and the slices of some loads under each scheduler.
 #![tactic(auto)]
 
-use card::{Card, Task};
+use card::{Card, Intervals, Task};
 use izl::Izl;
 use local::LocalScheduler;
 use refusal::{FileFault, Refusal};
 use sheet::{Placement, Sheet};
 use std::io;
+use table::padded;
 use wrap::Wrap;
 
 // A load has at most one slice more than it has shares above zero.
@@ -17,62 +18,36 @@ fn task(period: u32, run_time: u32) -> Task {
 }
 
 fn card_of(cores: u8, tasks: &[Task]) -> Result<Card, FileFault> {
-    let mut table = [task(0, 0); 32];
-    let mut count = 0u8;
-    for t in tasks.iter().take(32) {
-        if count < 32 {
-            table[usize::from(count)] = *t;
-            count += 1;
-        }
-    }
-    Card::new(cores, count, &table)
+    let count = tasks.len().min(32) as u8;
+    Card::new(cores, count, &padded(tasks, task(0, 0)))
 }
 
 fn sheet_of(rows: u16, count: u8, shares: &[u32]) -> Result<Sheet, FileFault> {
-    let mut table = [0; 4096];
-    for (i, share) in shares.iter().enumerate() {
-        if i < 4096 {
-            table[i] = *share;
-        }
-    }
-    Sheet::new(rows, count, &table)
+    Sheet::new(rows, count, &padded(shares, 0))
 }
 
-fn print_refusal(rt: &HostRuntime, refusal: Refusal) -> io::Result<()> {
-    println!(rt; "{refusal}")
+fn intervals_of(cores: u8, tasks: &[Task]) -> Result<Intervals, Refusal> {
+    Ok(card_of(cores, tasks)?.intervals()?)
 }
 
-fn print_verdict(rt: &HostRuntime, card: &Card, sheet: &Sheet) -> io::Result<()> {
-    let mut placement = Placement::new();
-    match placement.accept(card, sheet) {
-        Ok(()) => println!(rt; "accepted"),
-        Err(fault) => print_refusal(rt, fault.told()),
-    }
+// The verdict on the plan of three tasks on two cores with these rows.
+fn verdict(rows: u16, shares: &[u32]) -> Result<(), Refusal> {
+    let card = card_of(2, &[task(6, 4), task(9, 6), task(18, 12)])?;
+    let sheet = sheet_of(rows, 3, shares)?;
+    Ok(Placement::new().accept(&card, &sheet)?)
 }
 
-fn print_card(rt: &HostRuntime, card: Result<Card, FileFault>) -> io::Result<()> {
-    match card {
-        Err(fault) => print_refusal(rt, fault.told()),
-        Ok(card) => match card.intervals() {
-            Err(fault) => print_refusal(rt, fault.told()),
-            Ok(intervals) => {
-                let frame = intervals.frame();
-                let count = intervals.count();
-                println!(rt; "frame {frame} with {count} intervals")
-            }
-        },
+fn print_card(rt: &HostRuntime, cores: u8, tasks: &[Task]) -> io::Result<()> {
+    match intervals_of(cores, tasks) {
+        Ok(v) => println!(rt; "frame {} with {} intervals", v.frame(), v.count()),
+        Err(refusal) => println!(rt; "{refusal}"),
     }
 }
 
-// The plan of three tasks on two cores with these rows.
 fn print_plan(rt: &HostRuntime, rows: u16, shares: &[u32]) -> io::Result<()> {
-    let card = match card_of(2, &[task(6, 4), task(9, 6), task(18, 12)]) {
-        Ok(card) => card,
-        Err(fault) => return print_refusal(rt, fault.told()),
-    };
-    match sheet_of(rows, 3, shares) {
-        Ok(sheet) => print_verdict(rt, &card, &sheet),
-        Err(fault) => print_refusal(rt, fault.told()),
+    match verdict(rows, shares) {
+        Ok(()) => println!(rt; "accepted"),
+        Err(refusal) => println!(rt; "{refusal}"),
     }
 }
 
@@ -86,12 +61,11 @@ fn print_slices<S: LocalScheduler>(
         let Ok(slice) = scheduler.next() else {
             break;
         };
-        let length = slice.length;
-        print!(rt; "{length}:")?;
+        print!(rt; "{}:", slice.length)?;
         for seat in slice.seats.iter().take(usize::from(width)) {
             print!(rt; " {seat}")?;
         }
-        println!(rt; "")?;
+        println!(rt)?;
     }
     Ok(())
 }
@@ -104,22 +78,22 @@ fn print_load<S: LocalScheduler>(
     shares: &[u32],
 ) -> io::Result<()> {
     match scheduler.load(width, length, shares) {
-        Err(fault) => print_refusal(rt, fault.told()),
         Ok(()) => print_slices(rt, scheduler, width),
+        Err(fault) => println!(rt; "{}", Refusal::from(fault)),
     }
 }
 
 fn print_cards(rt: &HostRuntime) -> io::Result<()> {
-    print_card(rt, card_of(0, &[task(1, 1)]))?;
-    print_card(rt, card_of(17, &[task(1, 1)]))?;
-    print_card(rt, card_of(1, &[]))?;
-    print_card(rt, card_of(1, &[task(4, 1), task(4, 1)]))?;
-    print_card(rt, card_of(1, &[task(1, 1), task(128, 1)]))?;
-    print_card(rt, card_of(1, &[task(1, 1), task(129, 1)]))?;
-    print_card(rt, card_of(1, &[task(1000, 1), task(1001, 1)]))?;
-    print_card(rt, card_of(1, &[task(3, 1), task(0, 1)]))?;
-    print_card(rt, card_of(1, &[task(1_000_001, 1)]))?;
-    print_card(rt, card_of(1, &[task(3, 4)]))
+    print_card(rt, 0, &[task(1, 1)])?;
+    print_card(rt, 17, &[task(1, 1)])?;
+    print_card(rt, 1, &[])?;
+    print_card(rt, 1, &[task(4, 1), task(4, 1)])?;
+    print_card(rt, 1, &[task(1, 1), task(128, 1)])?;
+    print_card(rt, 1, &[task(1, 1), task(129, 1)])?;
+    print_card(rt, 1, &[task(1000, 1), task(1001, 1)])?;
+    print_card(rt, 1, &[task(3, 1), task(0, 1)])?;
+    print_card(rt, 1, &[task(1_000_001, 1)])?;
+    print_card(rt, 1, &[task(3, 4)])
 }
 
 fn print_plans(rt: &HostRuntime) -> io::Result<()> {

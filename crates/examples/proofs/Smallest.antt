@@ -1,5 +1,5 @@
 -- The smallest plan passes every check.
-use Rattle.std.proofs.Common.{◌≡◌, true, eqb, [], ◌∷◌, Err, Result, sym, refl, ap, ◌∙◌, ap₂, lit≤}
+use Rattle.std.proofs.Common.{◌≡◌, true, eqb, [], ◌∷◌, Ok, Err, Result, IsOk, sym, refl, ap, ◌∙◌, ap₂, rules, lit≤}
 use Prim.{tt}
 use Rattle.refusal.specs.declared.Refusal.{Refusal}
 use Rattle.refusal.specs.declared.SheetFault.{SheetFault}
@@ -56,7 +56,8 @@ pub launched : {S : Type 0} (m : Local S) (s : S) {r : Result (Dispatcher S) She
 launched m s (no_plan e none) = absurd (none.fails passes)
 launched m s (a_plan card sheet r plan l) = (card, sheet, plan, l)
 
-pub not_refused : {S : Type 0} (m : Local S) (s : S) (e : SheetFault) → LaunchedFile m smallest s 0 (Err e) → ⊥
-not_refused m s e l =
+pub runs : {S : Type 0} (m : Local S) (s : S) (r : Result (Dispatcher S) SheetFault) → LaunchedFile m smallest s 0 r → IsOk r
+runs m s (Ok d) l = search rules
+runs m s (Err e) l =
     let p = launched m s l in
-    sheet_bad e (ap (λ (r : Refusal). r.number) p.3.judgement ∙ ap (λ (j : Judged). j.0) (is_fine p.0 p.1 p.2))
+    absurd (sheet_bad e (ap (λ (r : Refusal). r.number) p.3.judgement ∙ ap (λ (j : Judged). j.0) (is_fine p.0 p.1 p.2)))

@@ -45,8 +45,5 @@ fn launch_smallest(scheduler: Wrap) -> Result<Dispatcher<Wrap>, SheetFault>
 pub fn smallest_plan() -> Dispatcher<Wrap>
     ensures { Running result }
 {
-    match launch_smallest(Wrap::new()) {
-        Ok(run) => run,
-        Err(_) => unreachable(),
-    }
+    launch_smallest(Wrap::new()).unwrap()
 }

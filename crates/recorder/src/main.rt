@@ -8,11 +8,31 @@ use local::LocalScheduler;
 use refusal::{FileFault, Refusal};
 use sheet::{Placement, Sheet};
 use std::io;
+use table::padded;
+use text::{HeadLine, RefusedLine, SliceLine, SumLine};
 use wrap::Wrap;
 
 const CORES: u8 = 2;
 
-const TASKS: [(u32, u32); 3] = [(6, 4), (9, 6), (18, 12)];
+const TASKS: [Task; 3] = [
+    Task {
+        period: 6,
+        run_time: 4,
+    },
+    Task {
+        period: 9,
+        run_time: 6,
+    },
+    Task {
+        period: 18,
+        run_time: 12,
+    },
+];
+
+const NO_TASK: Task = Task {
+    period: 0,
+    run_time: 0,
+};
 
 const LATER_ROWS: [u32; 9] = [2, 2, 2, 2, 2, 2, 4, 4, 4];
 
@@ -20,63 +40,64 @@ const LATER_ROWS: [u32; 9] = [2, 2, 2, 2, 2, 2, 4, 4, 4];
 const MAX_SLICES: u32 = 128 * 33;
 
 fn worked_card() -> Result<Card, FileFault> {
-    let mut tasks = [Task {
-        period: 0,
-        run_time: 0,
-    }; 32];
-    for (i, (period, run_time)) in TASKS.iter().copied().enumerate() {
-        tasks[i] = Task { period, run_time };
-    }
-    Card::new(CORES, 3, &tasks)
+    Card::new(CORES, 3, &padded(&TASKS, NO_TASK))
 }
 
 // The sheet with this first row.
 fn worked_sheet(first: [u32; 3]) -> Result<Sheet, FileFault> {
     let mut shares = [0; 4096];
-    for (i, share) in first.iter().chain(LATER_ROWS.iter()).enumerate() {
-        if i < shares.len() {
-            shares[i] = *share;
-        }
-    }
+    shares[..3].copy_from_slice(&first);
+    shares[3..12].copy_from_slice(&LATER_ROWS);
     Sheet::new(4, 3, &shares)
 }
 
+// The plan with this first row, and its card's intervals.
+fn worked_plan(first: [u32; 3]) -> Result<(Card, Intervals, Sheet), Refusal> {
+    let card = worked_card()?;
+    Ok((card, card.intervals()?, worked_sheet(first)?))
+}
+
+// The runs of an accepted plan from its frame 0 on, one under each scheduler.
+fn launched(card: &Card, sheet: &Sheet) -> Result<(Dispatcher<Izl>, Dispatcher<Wrap>), Refusal> {
+    Placement::new().accept(card, sheet)?;
+    let izl = Dispatcher::launch(card, sheet, Izl::new(), 0)?;
+    let wrap = Dispatcher::launch(card, sheet, Wrap::new(), 0)?;
+    Ok((izl, wrap))
+}
+
 fn print_card(rt: &HostRuntime, card: &Card) -> io::Result<()> {
-    let cores = card.cores();
-    print!(rt; "cores {cores}, tasks")?;
+    print!(rt; "cores {}, tasks", card.cores())?;
     for task in card.tasks() {
-        let period = task.period;
-        let run_time = task.run_time;
-        print!(rt; " ({period}, {run_time})")?;
+        print!(rt; " ({}, {})", task.period, task.run_time)?;
     }
-    println!(rt; "")
+    println!(rt)
 }
 
 fn print_boundaries(rt: &HostRuntime, intervals: &Intervals) -> io::Result<()> {
-    let frame = intervals.frame();
-    print!(rt; "frame {frame}, boundaries")?;
+    print!(rt; "frame {}, boundaries", intervals.frame())?;
     for start in intervals.starts() {
         print!(rt; " {start}")?;
     }
-    println!(rt; "")
+    println!(rt)
 }
 
-// The scheduler's letter, M, N and K.
 fn print_head(rt: &HostRuntime, letter: char, card: &Card, sheet: &Sheet) -> io::Result<()> {
-    let cores = card.cores();
-    let tasks = card.task_count();
-    let rows = sheet.rows();
-    println!(rt; "{letter} {cores} {tasks} {rows}")
+    let head = HeadLine {
+        letter,
+        cores: card.cores(),
+        tasks: card.task_count(),
+        intervals: sheet.rows(),
+    };
+    print!(rt; "{head}")
 }
 
-fn print_slice(rt: &HostRuntime, cores: u8, stamped: &Stamped) -> io::Result<()> {
-    let stamp = stamped.stamp;
-    let length = stamped.slice.length;
-    print!(rt; "{stamp} {length}")?;
-    for seat in stamped.slice.seats.iter().take(usize::from(cores)) {
-        print!(rt; " {seat}")?;
-    }
-    println!(rt; "")
+fn print_slice(rt: &HostRuntime, card: &Card, stamped: &Stamped) -> io::Result<()> {
+    let line = SliceLine {
+        stamp: stamped.stamp,
+        length: stamped.slice.length,
+        seats: &stamped.slice.seats[..usize::from(card.cores())],
+    };
+    print!(rt; "{line}")
 }
 
 // Ticks given and still owed to the current job of each task.
@@ -91,7 +112,7 @@ fn print_accounts<S: LocalScheduler>(
             print!(rt; " {given}+{owed}")?;
         }
     }
-    println!(rt; "")
+    println!(rt)
 }
 
 // Frame 0 slice by slice, with the accounts at each boundary, and the tally.
@@ -106,11 +127,11 @@ fn print_frame<S: LocalScheduler>(
         let Ok(stamped) = run.next_slice() else {
             break;
         };
-        print_slice(rt, card.cores(), &stamped)?;
+        print_slice(rt, card, &stamped)?;
         let end = stamped
             .stamp
             .saturating_add(u64::from(stamped.slice.length));
-        if end >= frame || is_boundary(intervals, end) {
+        if end >= frame || intervals.starts().iter().any(|s| u64::from(*s) == end) {
             print_accounts(rt, card, run)?;
         }
         if end >= frame {
@@ -118,66 +139,57 @@ fn print_frame<S: LocalScheduler>(
         }
     }
     let (slices, switches, busy) = run.tally();
-    println!(rt; "sum {slices} {switches} {busy}")
+    let sum = SumLine {
+        slices,
+        switches,
+        busy,
+    };
+    print!(rt; "{sum}")
 }
 
-fn is_boundary(intervals: &Intervals, tick: u64) -> bool {
-    for start in intervals.starts() {
-        if u64::from(*start) == tick {
-            return true;
-        }
-    }
-    false
-}
-
-fn print_refusal(rt: &HostRuntime, refusal: Refusal) -> io::Result<()> {
-    println!(rt; "{refusal}")
-}
-
-// Frame 0 of a sheet under one scheduler, or its refusal.
-fn print_plan<S: LocalScheduler + Drop>(
+// Frame 0 of a sheet under one scheduler.
+fn print_plan<S: LocalScheduler>(
     rt: &HostRuntime,
     card: &Card,
     intervals: &Intervals,
     sheet: &Sheet,
-    scheduler: S,
+    run: &mut Dispatcher<S>,
 ) -> io::Result<()> {
-    match Dispatcher::launch(card, sheet, scheduler, 0) {
-        Ok(mut run) => {
-            print_head(rt, S::LETTER, card, sheet)?;
-            print_frame(rt, card, intervals, &mut run)
-        }
-        Err(fault) => print_refusal(rt, fault.told()),
-    }
+    print_head(rt, S::LETTER, card, sheet)?;
+    print_frame(rt, card, intervals, run)
+}
+
+fn print_refusal(rt: &HostRuntime, refusal: Refusal) -> io::Result<()> {
+    print!(rt; "{}", RefusedLine(refusal))
 }
 
 // The verdict on a sheet, and where it is accepted its frame 0 under each scheduler.
-fn print_verdict(rt: &HostRuntime, card: &Card, sheet: &Sheet) -> io::Result<()> {
-    let intervals = match card.intervals() {
-        Ok(intervals) => intervals,
-        Err(fault) => return print_refusal(rt, fault.told()),
-    };
-    print_boundaries(rt, &intervals)?;
-    if let Err(fault) = Placement::new().accept(card, sheet) {
-        return print_refusal(rt, fault.told());
+fn print_verdict(
+    rt: &HostRuntime,
+    card: &Card,
+    intervals: &Intervals,
+    sheet: &Sheet,
+) -> io::Result<()> {
+    match launched(card, sheet) {
+        Ok((mut by_izl, mut by_wrap)) => {
+            println!(rt; "accepted")?;
+            print_plan(rt, card, intervals, sheet, &mut by_izl)?;
+            print_plan(rt, card, intervals, sheet, &mut by_wrap)
+        }
+        Err(refusal) => print_refusal(rt, refusal),
     }
-    println!(rt; "accepted")?;
-    print_plan(rt, card, &intervals, sheet, Izl::new())?;
-    print_plan(rt, card, &intervals, sheet, Wrap::new())
 }
 
 // The plan with this first row.
 fn print_worked(rt: &HostRuntime, first: [u32; 3]) -> io::Result<()> {
-    let card = match worked_card() {
-        Ok(card) => card,
-        Err(fault) => return print_refusal(rt, fault.told()),
-    };
-    let sheet = match worked_sheet(first) {
-        Ok(sheet) => sheet,
-        Err(fault) => return print_refusal(rt, fault.told()),
-    };
-    print_card(rt, &card)?;
-    print_verdict(rt, &card, &sheet)
+    match worked_plan(first) {
+        Ok((card, intervals, sheet)) => {
+            print_card(rt, &card)?;
+            print_boundaries(rt, &intervals)?;
+            print_verdict(rt, &card, &intervals, &sheet)
+        }
+        Err(refusal) => print_refusal(rt, refusal),
+    }
 }
 
 fn main(rt: HostRuntime) -> io::Result<()> {

@@ -1,14 +1,14 @@
 use Rattle.std.proofs.Common.{refl}
 use Rattle.wrap.specs.Told.{told}
-use Rattle.examples.proofs.Smallest.{launched, is_lawful, not_refused}
+use Rattle.examples.proofs.Smallest.{launched, is_lawful, runs}
 use Rattle.examples.proofs.smallest_plan.Goals as goal
 
-pub unreachable-requires : goal.unreachable-requires
-unreachable-requires c = not_refused told c.new.result c.in-Err.field-0 c.in-Err.ensures
+pub unwrap-requires : goal.unwrap-requires
+unwrap-requires c = runs told c.new.result c.launch_smallest.result c.launch_smallest.ensures
 
 pub returns : goal.returns
 returns c =
-    let p = launched told c.new.result c.in-Ok.ensures in
+    let p = launched told c.new.result (rw c.unwrap.ensures at c.launch_smallest.ensures) in
     let l = p.3 in
     let lawful = l.lawful.to (is_lawful p.0 p.1 p.2) in
     record {
