@@ -9,6 +9,7 @@ pub struct Task {
 }
 
 // M cores and N tasks, within their limits. It need not be lawful.
+// Kept: a table with a count, here and in Intervals. Both are Copy and allocate nothing, and an ArrayVec is not Copy.
 #[derive(Clone, Copy)]
 pub struct Card {
     pub(crate) cores: u8,
@@ -18,6 +19,7 @@ pub struct Card {
     ghost few_cores: { cores ≤ 16 },
     ghost some_tasks: { 1 ≤ count },
     ghost few_tasks: { count ≤ 32 },
+    // Kept: code knows an array's length, but theorems on every Card (equal cards are one value) have it from here.
     ghost table: { length tasks ≡ 32 },
     ghost rest: { (i : ℕ) → count ≤ i → slice_index_or tasks i nobody ≡ nobody },
 }
@@ -29,5 +31,6 @@ pub struct Intervals {
     pub(crate) count: u8,
     pub(crate) starts: [u32; 128],
     ghost few: { count ≤ 128 },
+    // Kept: as in Card; theorems on every Intervals (as many starts as it counts) have the length from here.
     ghost table: { length starts ≡ 128 },
 }

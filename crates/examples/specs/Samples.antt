@@ -32,8 +32,7 @@ card_of cores tasks some few some_tasks tasks_few = record {
   some_tasks = some_tasks;
   few_tasks = tasks_few;
   table = filled tasks 32 nobody tasks_few;
-  no_period = λ i l. ap (λ (t : Task). t.period) (behind tasks (32 - length tasks) i nobody l);
-  no_run = λ i l. ap (λ (t : Task). t.run_time) (behind tasks (32 - length tasks) i nobody l);
+  rest = λ i l. behind tasks (32 - length tasks) i nobody l;
 }
 
 -- a sheet of these shares, row by row

@@ -6,6 +6,7 @@ use mathlib.Core.HLevel.{is_prop→PathP, Π_prop}
 use Rattle.std.proofs.lemmas.List.{ext_get_or, get_or-take}
 use Rattle.std.proofs.lemmas.Bool.{cases_lt}
 use Rattle.card.specs.declared.types.Card.{Card}
+use Rattle.card.specs.declared.types.Task.{Task}
 use Rattle.card.specs.Cards.{nobody, tasks_of}
 use Rattle.sheet.specs.declared.types.Sheet.{Sheet}
 use Rattle.plan.specs.Plans.{CardRead, OneCard, OneSheet, SheetRead, shares_of}
@@ -16,14 +17,14 @@ same_list : {X : Type 0} (d : X) (xs ys : List X) (n : ℕ) → length xs ≡ le
 same_list d xs ys n size front p q =
     ext_get_or d xs ys size (λ i _. ⊎_elim (λ l. sym (get_or-take n xs i d l) ∙ ap (λ zs. get_or zs i d) front ∙ get_or-take n ys i d l) (λ l. p i l ∙ sym (q i l)) (cases_lt i n))
 
--- no task behind the last
-none : (card : Card) (i : ℕ) → card.count ≤ i → get_or card.tasks i nobody ≡ nobody
-none card i l = λ j. record { period = card.no_period i l j; run_time = card.no_run i l j }
+-- a task is its two numbers, so two equations between tasks are one
+task_set : (s t : Task) (p q : s ≡ t) → p ≡ q
+task_set s t p q = λ i j. record { period = ℕ_set _ _ (ap (λ (u : Task). u.period) p) (ap (λ (u : Task). u.period) q) i j; run_time = ℕ_set _ _ (ap (λ (u : Task). u.run_time) p) (ap (λ (u : Task). u.run_time) q) i j }
 
 pub same_card : (a b : Card) → a.cores ≡ b.cores → a.count ≡ b.count → tasks_of a ≡ tasks_of b → a ≡ b
 same_card a b p q front =
     let r : a.tasks ≡ b.tasks =
-    same_list nobody a.tasks b.tasks a.count (a.table ∙ sym b.table) (front ∙ ap (λ (n : ℕ). take n b.tasks) (sym q)) (none a) (λ i l. none b i (omega arith)) in
+    same_list nobody a.tasks b.tasks a.count (a.table ∙ sym b.table) (front ∙ ap (λ (n : ℕ). take n b.tasks) (sym q)) a.rest (λ i l. b.rest i (omega arith)) in
     λ j.
     record {
       cores = p j;
@@ -34,8 +35,7 @@ same_card a b p q front =
       some_tasks = is_prop→PathP (λ k. 1 ≤ q k) (λ k. le_prop) a.some_tasks b.some_tasks j;
       few_tasks = is_prop→PathP (λ k. q k ≤ 32) (λ k. le_prop) a.few_tasks b.few_tasks j;
       table = is_prop→PathP (λ k. length (r k) ≡ 32) (λ k. ℕ_set _ _) a.table b.table j;
-      no_period = is_prop→PathP (λ k. (i : ℕ) → q k ≤ i → (get_or (r k) i nobody).period ≡ 0) (λ k. Π_prop (λ i. Π_prop (λ _. ℕ_set _ _))) a.no_period b.no_period j;
-      no_run = is_prop→PathP (λ k. (i : ℕ) → q k ≤ i → (get_or (r k) i nobody).run_time ≡ 0) (λ k. Π_prop (λ i. Π_prop (λ _. ℕ_set _ _))) a.no_run b.no_run j;
+      rest = is_prop→PathP (λ k. (i : ℕ) → q k ≤ i → get_or (r k) i nobody ≡ nobody) (λ k. Π_prop (λ i. Π_prop (λ _. task_set _ _))) a.rest b.rest j;
     }
 
 pub same_sheet : (a b : Sheet) → a.rows ≡ b.rows → a.count ≡ b.count → shares_of a ≡ shares_of b → a ≡ b
