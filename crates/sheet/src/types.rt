@@ -17,7 +17,7 @@ pub struct Sheet {
     ghost few_rows: { rows ≤ 128 },
     ghost some_shares: { 1 ≤ count },
     ghost few_shares: { count ≤ 32 },
-    // Kept: a lemma over a sheet knows the length of its table by this alone.
+    // Kept: no code here needs it now, but a lemma over a sheet (two in plan) knows its table by this alone.
     ghost table: { length shares ≡ 4096 },
     ghost rest: { (i : ℕ) → rows * count ≤ i → slice_index shares i ≡ 0 },
 }
