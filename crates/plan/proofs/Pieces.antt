@@ -1,7 +1,7 @@
 -- Pieces of equal width, written one after the other.
-use Rattle.std.proofs.Common.{◌≡◌, ℕ, ◌+◌, ◌*◌, ◌<◌, ◌≤◌, List, [], ◌∷◌, ◌++◌, map, length, get_or, take, drop, sym, ap, ◌∙◌, add-zero, add-mul, mul-zero, mul-suc, arith, take-add}
+use Rattle.std.proofs.Common.{◌≡◌, ℕ, ◌+◌, ◌*◌, ◌<◌, ◌≤◌, List, [], ◌∷◌, ◌++◌, map, length, get_or, take, drop, sym, ap, ◌∙◌, add-mul, mul-zero, mul-suc, arith, take-add}
 use Rattle.std.specs.List.{flat_map}
-use Rattle.std.proofs.lemmas.List.{append-nil, length-append, length-take-le, map-append, take-append-drop, take_more}
+use Rattle.std.proofs.lemmas.List.{append-nil, length-append, length-take-le, map-append, take_more}
 use Rattle.std.proofs.lemmas.Grind.{flat_map-append}
 use Rattle.plan.specs.Plans.{written}
 use Rattle.plan.proofs.Written.{written_both}
@@ -9,10 +9,6 @@ use Rattle.plan.proofs.Written.{written_both}
 pub length_joined : {X : Type 0} (w : ℕ) (enc : X → List ℕ) → ((x : X) → length (enc x) ≡ w) → (xs : List X) → length (flat_map enc xs) ≡ w * length xs
 length_joined w enc wide [] = sym (mul-zero w)
 length_joined w enc wide (x ∷ xs) = length-append (enc x) (flat_map enc xs) ∙ omega (arith, wide x, length_joined w enc wide xs, mul-suc w (length xs))
-
--- nothing is written yet
-pub none_yet : (out : List ℕ) (at : ℕ) → out ≡ written out at []
-none_yet out at = sym (take-append-drop at out) ∙ ap (λ (k : ℕ). take at out ++ drop k out) (sym (add-zero at))
 
 -- some pieces more
 pub some_more : {X : Type 0} (w : ℕ) (enc : X → List ℕ) (dec : List ℕ → X) (out mid new : List ℕ) (at next : ℕ) (front part both : List X)

@@ -34,6 +34,7 @@ pub(crate) trait Coded: Copy {
         ensures is { out.new ≡ written out.old at (code self) }
         ensures back { decode (code self) ≡ self };
 
+    // A law: the bytes are that many.
     ghost wide: { (x : Self) → length (code x) ≡ WIDTH };
 }
 

@@ -13,14 +13,10 @@ loop-i-preserved g c =
     let so = turn coded.WIDTH coded.decode coded.code l.i bs _ l.place-items c.first.result behind (omega (arith, l.auto.place-items)) l.invariant.0 l.invariant.1 c.first.ensures.is c.first.ensures.back in
     (so.0, so.1, search (rules, places))
 
-pub returns : goal.returns
-returns g c =
+pub returns-clause-items : goal.returns-clause-items
+returns-clause-items g c =
     let l = c.loop-i in
     let coded = g.T.Coded in
     let end : l.i ≡ c.args.n = omega (arith, l.auto, l.invariant.2) in
-    record {
-      items =
-          take_at l.place-items _ c.args.n l.invariant.2 ∙ sym (take_all l.i l.place-items (omega (arith, l.invariant.2))) ∙ l.invariant.0
-          ∙ ap (λ (k : ℕ). parts coded.WIDTH coded.decode k c.args.bytes.now) end;
-      back = rw end at l.invariant.1;
-    }
+    take_at l.place-items _ c.args.n l.invariant.2 ∙ sym (take_all l.i l.place-items (omega (arith, l.invariant.2))) ∙ l.invariant.0
+    ∙ ap (λ (k : ℕ). parts coded.WIDTH coded.decode k c.args.bytes.now) end
