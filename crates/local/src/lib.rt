@@ -1,7 +1,7 @@
 // What a local scheduler means: it hands out the slices of one interval after another.
 #![tactic(auto)]
 
-ghost use Rattle.std.specs.Prelude.{◌≡◌, ℕ, ◌+◌, ◌*◌, ◌/◌, ◌%◌, ◌^◌, ◌<◌, ◌≤◌, true, false, if◌then◌else◌, MatchResult, bit_or, count_ones, length, nat_lt, slice_index, sum};
+ghost use Rattle.std.specs.Prelude.{◌≡◌, ℕ, ◌*◌, ◌/◌, ◌%◌, ◌^◌, ◌<◌, ◌≤◌, true, false, if◌then◌else◌, MatchResult, bit_or, count_ones, length, nat_lt, slice_index, sum};
 ghost use Rattle.refusal.specs.Table.{local_told, refusal};
 ghost use Rattle.refusal.specs.declared.Layer.TheVariants.{Local as LocalLayer};
 ghost use Rattle.local.specs.Masks.{bit, mask, seated_cores};
@@ -19,7 +19,7 @@ pub const MAX_TASKS: usize = 32;
 
 pub const MAX_LENGTH: u32 = 1_000_000;
 
-// Kept: what `load`, `next` and `amount` refuse is told in each impl: provided methods would call methods with a `requires`, which no public call has.
+// Kept: each impl refuses for itself: provided methods would call methods with a `requires`, which no public call has.
 // Kept: width, length and shares stay apart: a struct of them would be made at each call of `load` and taken apart in it.
 pub trait LocalScheduler {
     // The letter that it is printed by.
