@@ -59,12 +59,10 @@ impl<'a> Reader<'a> {
         &self.bytes[..self.trailer.card as usize]
     }
 
-    // The card; the answer is never a refusal.
-    pub fn card(&self) -> Result<Card, FileFault>
-        ensures judged { MatchResult result (λ card. (judged_file self.now.bytes.now ≡ fine) × CardRead self.now.bytes.now card) (λ e. file_told e ≡ numbered (judged_file self.now.bytes.now)) }
-        ensures when { is_ok result ≡ ((judged_file self.now.bytes.now).0 == 0) }
+    // The card that the bytes hold.
+    fn card_in(&self) -> Result<Card, FileFault>
+        ensures is { MatchResult result (λ card. CardRead self.now.bytes.now card) (λ _. ⊥) }
         ensures one { IfOk result (λ card. OneCard self.now.bytes.now card) }
-        ensures answers { IsTrue (is_ok result) }
     {
         let t = self.trailer;
         let tasks: [Task; TASKS] = read_all(
@@ -75,6 +73,26 @@ impl<'a> Reader<'a> {
         Card::new(t.cores, t.count, &tasks)
     }
 
+    // The card; the answer is never a refusal.
+    pub fn card(&self) -> Result<Card, FileFault>
+        ensures judged { MatchResult result (λ card. (judged_file self.now.bytes.now ≡ fine) × CardRead self.now.bytes.now card) (λ e. file_told e ≡ numbered (judged_file self.now.bytes.now)) }
+        ensures when { is_ok result ≡ ((judged_file self.now.bytes.now).0 == 0) }
+        ensures one { IfOk result (λ card. OneCard self.now.bytes.now card) }
+        ensures answers { IsTrue (is_ok result) }
+    {
+        self.card_in()
+    }
+
+    // The sheet that the bytes hold.
+    fn sheet_in(&self) -> Result<Sheet, FileFault>
+        ensures is { MatchResult result (λ sheet. SheetRead self.now.bytes.now sheet) (λ _. ⊥) }
+        ensures one { IfOk result (λ sheet. OneSheet self.now.bytes.now sheet) }
+    {
+        let t = self.trailer;
+        let shares: [u32; SHARES] = read_all(&self.bytes[t.sheet as usize..], t.cells(), 0);
+        Sheet::new(t.rows, t.count, &shares)
+    }
+
     // The sheet; the answer is never a refusal.
     pub fn sheet(&self) -> Result<Sheet, FileFault>
         ensures judged { MatchResult result (λ sheet. (judged_file self.now.bytes.now ≡ fine) × SheetRead self.now.bytes.now sheet) (λ e. file_told e ≡ numbered (judged_file self.now.bytes.now)) }
@@ -82,9 +100,7 @@ impl<'a> Reader<'a> {
         ensures one { IfOk result (λ sheet. OneSheet self.now.bytes.now sheet) }
         ensures answers { IsTrue (is_ok result) }
     {
-        let t = self.trailer;
-        let shares: [u32; SHARES] = read_all(&self.bytes[t.sheet as usize..], t.cells(), 0);
-        Sheet::new(t.rows, t.count, &shares)
+        self.sheet_in()
     }
 
     // The card and the sheet. With the note they give the same bytes again.

@@ -3,7 +3,7 @@ use Rattle.std.proofs.lemmas.Grind.{common_steps}
 use Rattle.std.proofs.lemmas.Result.{IfOk-weaker}
 use Rattle.plan.specs.Plans.{SheetRead}
 use Rattle.plan.proofs.Same.{one_sheet}
-use Rattle.plan.proofs.reader.Reader.sheet.Goals as goal
+use Rattle.plan.proofs.reader.Reader.sheet_in.Goals as goal
 
 pub returns-clause-one : goal.returns-clause-one
 returns-clause-one c =

@@ -3,7 +3,7 @@ use Rattle.std.proofs.lemmas.Grind.{common_steps}
 use Rattle.std.proofs.lemmas.Result.{IfOk-weaker}
 use Rattle.plan.specs.Plans.{CardRead}
 use Rattle.plan.proofs.Same.{one_card}
-use Rattle.plan.proofs.reader.Reader.card.Goals as goal
+use Rattle.plan.proofs.reader.Reader.card_in.Goals as goal
 
 pub returns-clause-one : goal.returns-clause-one
 returns-clause-one c =
