@@ -7,4 +7,3 @@ pub mod Handing
 pub mod Loading
 pub mod Telling
 pub mod Room
-pub mod FromFn
