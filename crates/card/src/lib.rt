@@ -22,9 +22,9 @@ use starts::intervals_of;
 use table::padded;
 pub use types::{Card, Intervals, Task};
 
-const MAX_CORES: u8 = 16;
+pub const MAX_CORES: u8 = 16;
 
-const MAX_TASKS: u8 = 32;
+pub const MAX_TASKS: u8 = 32;
 
 // The first `count` tasks, and none behind them.
 #[tactic(auto, using(crate::proofs::Padding::padding_behind))]

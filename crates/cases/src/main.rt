@@ -19,7 +19,7 @@ fn task(period: u32, run_time: u32) -> Task {
 
 fn card_of(cores: u8, tasks: &[Task]) -> Result<Card, FileFault> {
     let count = tasks.len().min(32) as u8;
-    Card::new(cores, count, &padded(tasks, task(0, 0)))
+    Card::new(cores, count, &padded(tasks, Task::default()))
 }
 
 fn sheet_of(rows: u16, count: u8, shares: &[u32]) -> Result<Sheet, FileFault> {

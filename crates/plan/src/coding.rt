@@ -5,12 +5,6 @@ ghost use Rattle.plan.specs.Plans.{written};
 
 use card::Task;
 
-// What stands behind the tasks.
-pub(crate) const NO_TASK: Task = Task {
-    period: 0,
-    run_time: 0,
-};
-
 // A value that has a fixed number of bytes in a file.
 pub(crate) trait Coded: Copy {
     const WIDTH: usize;

@@ -7,11 +7,11 @@ ghost use Rattle.plan.specs.Trailers.{Agrees, Read};
 ghost use Rattle.refusal.specs.Table.{file_told, numbered};
 ghost use Rattle.std.specs.List.{flat_map};
 
-use crate::coding::{Coded, NO_TASK};
-use crate::trailer::{MAX_ROWS, MAX_TASKS, Trailer};
-use card::{Card, Task};
+use crate::coding::Coded;
+use crate::trailer::Trailer;
+use card::{Card, MAX_TASKS, Task};
 use refusal::FileFault;
-use sheet::Sheet;
+use sheet::{MAX_ROWS, Sheet};
 
 const TASKS: usize = MAX_TASKS as usize;
 
@@ -68,7 +68,7 @@ impl<'a> Reader<'a> {
         let tasks: [Task; TASKS] = read_all(
             &self.bytes[t.card as usize..],
             usize::from(t.count),
-            NO_TASK,
+            Task::default(),
         );
         Card::new(t.cores, t.count, &tasks)
     }

@@ -7,14 +7,9 @@ ghost use Rattle.refusal.specs.declared.FileFault.TheVariants.{Stub};
 ghost use Rattle.refusal.specs.Table.{file_told, numbered};
 
 use crate::coding::{Coded, put};
-use card::Task;
+use card::{MAX_CORES, MAX_TASKS, Task};
 use refusal::FileFault;
-
-const MAX_CORES: u8 = 16;
-
-pub(crate) const MAX_TASKS: u8 = 32;
-
-pub(crate) const MAX_ROWS: u16 = 128;
+use sheet::MAX_ROWS;
 
 pub(crate) const MAX_NOTE: usize = 255;
 

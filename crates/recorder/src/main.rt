@@ -29,18 +29,13 @@ const TASKS: [Task; 3] = [
     },
 ];
 
-const NO_TASK: Task = Task {
-    period: 0,
-    run_time: 0,
-};
-
 const LATER_ROWS: [u32; 9] = [2, 2, 2, 2, 2, 2, 4, 4, 4];
 
 // No frame takes more slices: 128 intervals, each with 32 shares and so at most 33 slices.
 const MAX_SLICES: u32 = 128 * 33;
 
 fn worked_card() -> Result<Card, FileFault> {
-    Card::new(CORES, 3, &padded(&TASKS, NO_TASK))
+    Card::new(CORES, 3, &padded(&TASKS, Task::default()))
 }
 
 // The sheet with this first row.

@@ -9,4 +9,4 @@ mod rows;
 mod types;
 
 pub use placement::Placement;
-pub use types::Sheet;
+pub use types::{MAX_ROWS, Sheet};

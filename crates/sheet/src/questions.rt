@@ -6,12 +6,6 @@ use crate::placement::Placement;
 use crate::types::Sheet;
 use card::{Card, Task};
 
-// What stands for a task where there is none.
-const NO_TASK: Task = Task {
-    period: 0,
-    run_time: 0,
-};
-
 // What a placement holds. Tasks and intervals count from 0; an empty one has none of either.
 impl Placement {
     pub fn is_empty(&self) -> bool
@@ -47,7 +41,10 @@ impl Placement {
     pub fn task(&self, i: usize) -> Task
         ensures { result ≡ task_in (held self.now) i }
     {
-        self.plan.as_ref().map_or(NO_TASK, |plan| plan.card.task(i))
+        self.plan
+            .as_ref()
+            .map(|plan| plan.card.task(i))
+            .unwrap_or_default()
     }
 
     pub fn frame(&self) -> u32

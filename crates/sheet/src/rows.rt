@@ -3,7 +3,8 @@ ghost use Rattle.refusal.specs.declared.Layer.TheVariants.{File};
 ghost use Rattle.refusal.specs.Table.{file_told, refusal};
 ghost use Rattle.sheet.specs.Sheets.{limited, row_at, share, shares_at};
 
-use crate::types::{MAX_ROWS, MAX_TASKS, Sheet, TABLE};
+use crate::types::{MAX_ROWS, Sheet, TABLE};
+use card::MAX_TASKS;
 use refusal::FileFault;
 use table::padded;
 

@@ -1,8 +1,6 @@
 ghost use Rattle.std.specs.Prelude.{◌≡◌, ℕ, ◌*◌, ◌≤◌, length, slice_index};
 
-pub(crate) const MAX_ROWS: u16 = 128;
-
-pub(crate) const MAX_TASKS: u8 = 32;
+pub const MAX_ROWS: u16 = 128;
 
 pub(crate) const TABLE: usize = 4096;
 
