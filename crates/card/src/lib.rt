@@ -49,6 +49,7 @@ fn window_at(period: u32, tick: u32) -> (u32, u32)
 
 impl Card {
     // The first `count` tasks on this many cores.
+    // Kept: a file tells the count, which may be any byte, and what has none is in a table of a fixed size.
     pub fn new(cores: u8, count: u8, tasks: &[Task; 32]) -> Result<Card, FileFault>
         ensures made { MatchResult result (λ card. (card.cores ≡ cores) × (card.count ≡ count) × (tasks_of card ≡ take count tasks.now)) (λ e. file_told e ≡ refusal File 2 0 0) }
         ensures when { is_ok result ≡ counted cores count }

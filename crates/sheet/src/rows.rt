@@ -17,6 +17,7 @@ fn within_limits(rows: u16, count: u8) -> bool
 
 impl Sheet {
     // The first rows * count shares of the table, interval by interval.
+    // Kept: a file tells the counts, which may be any numbers, and the shares are in a table of a fixed size.
     pub fn new(rows: u16, count: u8, shares: &[u32; TABLE]) -> Result<Sheet, FileFault>
         ensures made { MatchResult result (λ s. (s.rows ≡ rows) × (s.count ≡ count) × (take (rows * count) s.shares ≡ take (rows * count) shares.now)) (λ e. file_told e ≡ refusal File 2 0 0) }
         ensures when { is_ok result ≡ limited rows count }
