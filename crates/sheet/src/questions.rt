@@ -1,5 +1,4 @@
 ghost use Rattle.std.specs.Prelude.{◌≡◌, length};
-ghost use Rattle.std.specs.Option.{option_map};
 ghost use Rattle.sheet.specs.Held.{card_in, cores_in, count_in, empty_in, frame_in, held, row_at_in, rows_in, shares_at_in, sheet_in, start_in, task_in};
 
 use crate::placement::Placement;
@@ -14,16 +13,16 @@ impl Placement {
         self.plan.is_none()
     }
 
-    pub fn card(&self) -> Option<&Card>
-        ensures { option_map (λ r. r.now) result ≡ card_in (held self.now) }
+    pub fn card(&self) -> Option<Card>
+        ensures { result ≡ card_in (held self.now) }
     {
-        self.plan.as_ref().map(|plan| &plan.card)
+        self.plan.as_ref().map(|plan| plan.card)
     }
 
-    pub fn sheet(&self) -> Option<&Sheet>
-        ensures { option_map (λ r. r.now) result ≡ sheet_in (held self.now) }
+    pub fn sheet(&self) -> Option<Sheet>
+        ensures { result ≡ sheet_in (held self.now) }
     {
-        self.plan.as_ref().map(|plan| &plan.sheet)
+        self.plan.as_ref().map(|plan| plan.sheet)
     }
 
     pub fn cores(&self) -> u8
