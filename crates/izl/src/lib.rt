@@ -93,6 +93,7 @@ mod tests {
     use std::test::Fail;
 
     // The length of the next slice and the tasks on two cores.
+    // Kept: wrap's test has the same; a test is of its own crate alone.
     fn next_of(izl: &mut Izl) -> Result<(u32, u8, u8), Fail> {
         let slice = izl.next()?;
         Ok((slice.length, slice.seats[0], slice.seats[1]))

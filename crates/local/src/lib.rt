@@ -13,6 +13,7 @@ mod slice;
 
 pub use slice::Slice;
 
+// Kept: card says two of these limits too. It knows nothing of schedulers, and they nothing of cards.
 pub const MAX_CORES: u8 = 16;
 
 pub const MAX_TASKS: usize = 32;
@@ -45,6 +46,7 @@ pub trait LocalScheduler {
         ensures { result ≡ meaning.left self.now };
 
     // What is left of a task's share, by its number from 1; 0 outside 1 to 32.
+    // Kept: no Option, since the rule tells 0 of a number that no task has.
     fn amount(&self, task: u32) -> u32
         ensures { result ≡ amount_of meaning self.now task };
 }

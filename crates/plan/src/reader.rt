@@ -25,6 +25,7 @@ fn read_all<T: Coded, const N: usize>(bytes: &[u8], n: usize, none: T) -> [T; N]
     ensures back { flat_map T.code (parts T.WIDTH T.decode n bytes.now) ≡ take (T.WIDTH * n) bytes.now }
 {
     let mut table = [none; N];
+    // Kept: the place of item i in the bytes. Through a zip with chunks of them a proof would not know the items.
     for (i, place) in table[..n].iter_mut().enumerate() {
         *place = T::first(&bytes[T::WIDTH * i..]);
     }
@@ -60,6 +61,7 @@ impl<'a> Reader<'a> {
     }
 
     // The card that the bytes hold.
+    // Kept: beside sheet_in, since each makes another type by its own `new`, and the file says of each something else.
     fn card_in(&self) -> Result<Card, FileFault>
         ensures is { MatchResult result (λ card. CardRead self.now.bytes.now card) (λ _. ⊥) }
         ensures one { IfOk result (λ card. OneCard self.now.bytes.now card) }

@@ -18,6 +18,7 @@ fn put_all<T: Coded>(items: &[T], at: usize, out: &mut [u8])
     ensures is { out.new ≡ written out.old at (flat_map T.code items.now) }
     ensures back { map (λ x. T.decode (T.code x)) items.now ≡ items.now }
 {
+    // Kept: the place of item i in the bytes, as in read_all.
     for (i, item) in items.iter().enumerate() {
         item.put(at + T::WIDTH * i, out);
     }

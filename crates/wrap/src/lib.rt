@@ -69,6 +69,7 @@ mod tests {
     use std::test::Fail;
 
     // The next slice's length, and its first two seats.
+    // Kept: izl's test has the same; a test is of its own crate alone.
     fn next_of(w: &mut Wrap) -> Result<(u32, u8, u8), Fail> {
         let slice = w.next()?;
         Ok((slice.length, slice.seats[0], slice.seats[1]))

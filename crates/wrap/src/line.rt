@@ -78,6 +78,7 @@ impl Wrap {
     }
 
     // The seat of a core, from 0, in the next slice.
+    // Kept: no Option, as in task_at.
     fn seat_of(&self, core: u32) -> u8
         ensures { result ≡ seat_at self.now.shares self.now.width self.now.length (offset (view self.now)) core }
     {
