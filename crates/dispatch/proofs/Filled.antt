@@ -8,7 +8,7 @@ use Rattle.sheet.specs.declared.types.Sheet.{Sheet}
 use Rattle.sheet.specs.declared.placement.Placement.{Placement}
 use Rattle.sheet.specs.Sheets.{row}
 use Rattle.sheet.specs.Held.{held, asked, cores_in, count_in, task_in, rows_in, start_in, row_at_in, Holds}
-use Rattle.sheet.proofs.Holding.{none_some}
+use Rattle.std.proofs.lemmas.Option.{none-some}
 use Rattle.local.specs.Meaning.{Fit}
 use Rattle.dispatch.proofs.Fits.{fit_of}
 use Rattle.dispatch.proofs.Placed.{good_held, meets_held}
@@ -30,7 +30,7 @@ by_full None e = absurd (true≢false e)
 by_full (Some q) e = (q.0, q.1, refl)
 
 pub not_empty : (o : Option (Card × Sheet)) → asked true (λ _ _. false) o ≡ false → o ≡ None → ⊥
-not_empty o e none = let q = by_full o e in none_some (q.0, q.1) (sym none ∙ q.2)
+not_empty o e none = let q = by_full o e in none-some (q.0, q.1) (sym none ∙ q.2)
 
 -- a task that is there has a period, and its number is one of 32
 pub period_there : (p : Placement) (i : ℕ) → i < count_in (held p) → 1 ≤ (task_in (held p) i).period

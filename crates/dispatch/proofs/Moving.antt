@@ -5,7 +5,7 @@ use Rattle.refusal.specs.declared.DispatchFault.{DispatchFault}
 use Rattle.card.specs.declared.types.Card.{Card}
 use Rattle.card.specs.Cards.{begins}
 use Rattle.sheet.specs.declared.types.Sheet.{Sheet}
-use Rattle.sheet.proofs.Holding.{some_inj, none_some}
+use Rattle.std.proofs.lemmas.Option.{same_Some, none-some}
 use Rattle.local.specs.Meaning.{Local}
 use Rattle.dispatch.specs.declared.books.Books.{Books}
 use Rattle.dispatch.specs.declared.state.Dispatcher.{Dispatcher}
@@ -20,14 +20,14 @@ use Rattle.dispatch.specs.Runs.Where.{inside, at_start, past}
 
 -- the interval to load is where the next slice lies
 pub where_target : (p : Place) (left n f' k' : ℕ) → ((f k : ℕ) → p ≡ In f k → left ≡ 0) → target p n ≡ Some (f', k') → onward n left p ≡ at_start f' k'
-where_target (Before f) left n f' k' over e = ap (λ (p : ℕ × ℕ). at_start p.0 p.1) (some_inj (f, 0) (f', k') e)
+where_target (Before f) left n f' k' over e = ap (λ (p : ℕ × ℕ). at_start p.0 p.1) (same_Some (f, 0) (f', k') e)
 where_target (In f k) left n f' k' over e =
     ap (λ (b : Bool). cond b (behind n f k) (inside f k)) (eq-eqb left 0 (over f k refl)) ∙ go (ltb (k + 1) n) (ltb (f + 1) (2 ^ 32)) e
   where
     go : (more again : Bool) → cond {A = Option (ℕ × ℕ)} more (Some (f, k + 1)) (cond again (Some (f + 1, 0)) None) ≡ Some (f', k') → cond more (at_start f (k + 1)) (cond again (at_start (f + 1) 0) past) ≡ at_start f' k'
-    go true again e = ap (λ (p : ℕ × ℕ). at_start p.0 p.1) (some_inj (f, k + 1) (f', k') e)
-    go false true e = ap (λ (p : ℕ × ℕ). at_start p.0 p.1) (some_inj (f + 1, 0) (f', k') e)
-    go false false e = absurd (none_some (f', k') e)
+    go true again e = ap (λ (p : ℕ × ℕ). at_start p.0 p.1) (same_Some (f, k + 1) (f', k') e)
+    go false true e = ap (λ (p : ℕ × ℕ). at_start p.0 p.1) (same_Some (f + 1, 0) (f', k') e)
+    go false false e = absurd (none-some (f', k') e)
 
 ok_inj : {A E : Type 0} (x y : A) → ◌≡◌ {A = Result A E} (Ok x) (Ok y) → x ≡ y
 ok_inj {A} {E} x y e = ap value e

@@ -1,6 +1,7 @@
 -- What a placement holds is lawful, its sheet meets the equations of the card's frame, and it keeps that frame and its boundaries.
 use Rattle.std.proofs.Common.{◌≡◌, ℕ, Some, None, Option, unwrap_or, refl, ap, subst, arith}
 use Rattle.std.specs.Option.{option_map}
+use Rattle.std.proofs.lemmas.Option.{same_Some, none-some}
 use Rattle.card.specs.declared.types.Card.{Card}
 use Rattle.card.specs.Cards.{tasks_of}
 use Rattle.card.specs.Lawful.{Lawful}
@@ -12,17 +13,11 @@ use Rattle.sheet.specs.Held.{planned, Holds}
 use Rattle.sheet.specs.Verdicts.{judged, Meets}
 use Rattle.sheet.proofs.Agreement.{ok_fine, fine_lawful, fine_meets}
 
-pub some_inj : {X : Type 0} (x y : X) → Some x ≡ Some y → x ≡ y
-some_inj x y e = ap (λ (o : Option _). unwrap_or o x) e
-
-pub none_some : {X : Type 0} (x : X) → None ≡ Some x → ⊥
-none_some x e = let z : ◌≡◌ {A = ℕ} 0 1 = ap (λ (o : Option _). unwrap_or (option_map (λ _. 1) o) 0) e in omega arith
-
 -- the plan of a placement that holds a card and a sheet
 pub plan_of : (o : Option Plan) (card : Card) (sheet : Sheet) → option_map planned o ≡ Some (card, sheet) → (plan : Plan) × (o ≡ Some plan) × (plan.card ≡ card) × (plan.sheet ≡ sheet)
-plan_of None card sheet e = absurd (none_some (card, sheet) e)
+plan_of None card sheet e = absurd (none-some (card, sheet) e)
 plan_of (Some plan) card sheet e =
-    let p = some_inj (planned plan) (card, sheet) e in
+    let p = same_Some (planned plan) (card, sheet) e in
     (plan, refl, ap (λ (q : Card × Sheet). q.0) p, ap (λ (q : Card × Sheet). q.1) p)
 
 pub held_fine : (p : Placement) (card : Card) (sheet : Sheet) → Holds p card sheet → judged card sheet ≡ fine

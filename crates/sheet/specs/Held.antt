@@ -42,6 +42,10 @@ cores_in o = asked 0 (λ card _. card.cores) o
 abbrev pub count_in : Option (Card × Sheet) → ℕ
 count_in o = asked 0 (λ card _. card.count) o
 
+-- its tasks
+abbrev pub tasks_in : Option (Card × Sheet) → List Task
+tasks_in o = asked [] (λ card _. tasks_of card) o
+
 -- task i, from 0
 abbrev pub task_in : Option (Card × Sheet) → ℕ → Task
 task_in o i = asked nobody (λ card _. slice_index_or (tasks_of card) i nobody) o

@@ -1,5 +1,5 @@
 ghost use Rattle.std.specs.Prelude.{◌≡◌, length};
-ghost use Rattle.sheet.specs.Held.{card_in, cores_in, count_in, empty_in, frame_in, held, row_at_in, rows_in, shares_at_in, sheet_in, start_in, task_in};
+ghost use Rattle.sheet.specs.Held.{card_in, cores_in, count_in, empty_in, frame_in, held, row_at_in, rows_in, shares_at_in, sheet_in, start_in, task_in, tasks_in};
 
 use crate::placement::Placement;
 use crate::types::Sheet;
@@ -35,6 +35,13 @@ impl Placement {
         ensures { result ≡ count_in (held self.now) }
     {
         self.plan.as_ref().map_or(0, |plan| plan.card.task_count())
+    }
+
+    // The tasks of the card; none of an empty placement.
+    pub fn tasks(&self) -> &[Task]
+        ensures { result.now ≡ tasks_in (held self.now) }
+    {
+        self.plan.as_ref().map_or(&[], |plan| plan.card.tasks())
     }
 
     pub fn task(&self, i: usize) -> Task

@@ -47,6 +47,14 @@ impl Sheet {
         self.count
     }
 
+    // All shares, interval by interval.
+    pub fn shares(&self) -> &[u32]
+        ensures all { result.now ≡ take (self.now.rows * self.now.count) self.now.shares }
+        ensures size { length result.now ≡ self.now.rows * self.now.count }
+    {
+        &self.shares[..usize::from(self.rows) * usize::from(self.count)]
+    }
+
     // The shares of interval k, from 0; none past the last.
     #[tactic(auto, using(crate::proofs::Rooms::row_room))]
     pub fn row(&self, k: usize) -> &[u32]
