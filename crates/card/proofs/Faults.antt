@@ -15,7 +15,7 @@ file_numbered Counts z = omega arith
 file_numbered Layout z = omega arith
 file_numbered NoSpace z = omega arith
 
-fault_numbered : (e : CardFault) → (card_told e).number ≡ 0 → ⊥
+pub fault_numbered : (e : CardFault) → (card_told e).number ≡ 0 → ⊥
 fault_numbered (File e) z = file_numbered e z
 fault_numbered (Period task) z = omega arith
 fault_numbered (RunTime task) z = omega arith

@@ -77,6 +77,7 @@ fn print_load<S: LocalScheduler>(
     length: u32,
     shares: &[u32],
 ) -> io::Result<()> {
+    // Kept: the one place where the refusal of a load is printed.
     match scheduler.load(width, length, shares) {
         Ok(()) => print_slices(rt, scheduler, width),
         Err(fault) => println!(rt; "{}", Refusal::from(fault)),

@@ -6,3 +6,4 @@ pub mod Parts
 pub mod Laying
 pub mod Blocks
 pub mod Built
+pub mod Repeated

@@ -1,13 +1,14 @@
 -- The chart of slices in a row, and what a task gets in a part of a chart.
-use Rattle.std.proofs.Common.{◌≡◌, ℕ, zero, suc, ◌+◌, ◌*◌, ◌≤◌, eqb, List, [], ◌∷◌, ◌++◌, length, take, drop, replicate, sum_by, count_by, sym, refl, ap, ◌∙◌, subst, arith}
-use Prim.{tt}
-use native.Mathlib.Nat as law
+use Rattle.std.proofs.Common.{◌≡◌, ℕ, ◌+◌, ◌*◌, ◌≤◌, eqb, List, [], ◌∷◌, ◌++◌, length, take, drop, replicate, sum_by, count_by, sym, refl, ap, ◌∙◌, subst, arith}
 use Rattle.std.specs.List.{AllByRecursion}
 use Rattle.std.proofs.lemmas.List.{append_assoc, append-nil, length-append, length-replicate, take-append-le, take-append-drop, take_all}
 use Rattle.std.proofs.lemmas.List.Sums.{sum_by-cons, sum_by-append, sum_by_push}
 use Rattle.std.proofs.ByRecursion.{All-append}
 use Rattle.chart.specs.Charts.{Row, Chart, part, got, Once}
 use Rattle.chart.proofs.Parts.{part_front}
+use Rattle.chart.proofs.Repeated.{all_replicate}
+use Rattle.std.proofs.Math.Nat.{mul_comm}
+use Rattle.std.proofs.lemmas.List.Folds.{sum_by-replicate}
 use Rattle.dispatch.specs.declared.Stamped.{Stamped}
 use Rattle.dispatch.specs.Counts.{chart, ticks}
 
@@ -15,16 +16,7 @@ abbrev pub count : ℕ → Row → ℕ
 count task row = count_by (eqb task) row
 
 pub sum_by_replicate : {X : Type 0} (f : X → ℕ) (n : ℕ) (x : X) → sum_by f (replicate n x) ≡ f x * n
-sum_by_replicate f zero x = sym (law.mul-zero (f x))
-sum_by_replicate f (suc n) x =
-    let a : sum_by f (x ∷ replicate n x) ≡ f x + sum_by f (replicate n x) = sum_by-cons f x (replicate n x) in
-    let b = sum_by_replicate f n x in
-    let c = law.mul-suc (f x) n in
-    omega (arith, a, b, c)
-
-pub all_replicate : {X : Type 0} (P : X → Type 0) (n : ℕ) (x : X) → P x → AllByRecursion P (replicate n x)
-all_replicate P zero x p = tt
-all_replicate P (suc n) x p = (p, all_replicate P n x p)
+sum_by_replicate f n x = sum_by-replicate f n x ∙ mul_comm n (f x)
 
 pub chart_append : (xs ys : List Stamped) → chart (xs ++ ys) ≡ chart xs ++ chart ys
 chart_append [] ys = refl

@@ -1,13 +1,14 @@
 -- A placement that has a task or an interval holds a card and a sheet, and what follows of them.
-use Rattle.std.proofs.Common.{◌≡◌, ℕ, ◌+◌, ◌-◌, ◌<◌, ◌≤◌, true, false, ltb, List, [], Some, None, Option, sym, refl, ap, ◌∙◌, subst, arith}
+use Rattle.std.proofs.Common.{◌≡◌, ℕ, ◌+◌, ◌-◌, ◌<◌, ◌≤◌, true, false, ltb, List, [], length, get_or, Some, None, Option, sym, refl, ap, ◌∙◌, subst, arith}
 use Rattle.std.proofs.lemmas.Bool.{cond-true, lt-ltb, true≢false}
 use Rattle.card.specs.declared.types.Card.{Card}
-use Rattle.card.specs.Cards.{span, tasks_of}
+use Rattle.card.specs.Cards.{span, tasks_of, nobody}
 use Rattle.card.specs.Verdicts.{frame_of}
 use Rattle.sheet.specs.declared.types.Sheet.{Sheet}
 use Rattle.sheet.specs.declared.placement.Placement.{Placement}
 use Rattle.sheet.specs.Sheets.{row}
-use Rattle.sheet.specs.Held.{held, asked, cores_in, count_in, task_in, rows_in, start_in, row_at_in, Holds}
+use Rattle.sheet.specs.Held.{held, asked, cores_in, count_in, task_in, tasks_in, rows_in, start_in, row_at_in, Holds}
+use Rattle.std.proofs.lemmas.List.{length-take}
 use Rattle.std.proofs.lemmas.Option.{none-some}
 use Rattle.local.specs.Meaning.{Fit}
 use Rattle.dispatch.proofs.Fits.{fit_of}
@@ -31,6 +32,15 @@ by_full (Some q) e = (q.0, q.1, refl)
 
 pub not_empty : (o : Option (Card × Sheet)) → asked true (λ _ _. false) o ≡ false → o ≡ None → ⊥
 not_empty o e none = let q = by_full o e in none-some (q.0, q.1) (sym none ∙ q.2)
+
+-- the tasks, and each of them
+pub tasks_count : (o : Option (Card × Sheet)) → length (tasks_in o) ≡ count_in o
+tasks_count None = refl
+tasks_count (Some q) = let few = q.0.few_tasks in let table = q.0.table in omega (arith, length-take q.0.count q.0.tasks)
+
+pub task_among : (o : Option (Card × Sheet)) (i : ℕ) → get_or (tasks_in o) i nobody ≡ task_in o i
+task_among None i = refl
+task_among (Some q) i = refl
 
 -- a task that is there has a period, and its number is one of 32
 pub period_there : (p : Placement) (i : ℕ) → i < count_in (held p) → 1 ≤ (task_in (held p) i).period

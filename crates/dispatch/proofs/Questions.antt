@@ -1,6 +1,7 @@
 -- The account and the tally answer as promised.
-use Rattle.std.proofs.Common.{◌≡◌, ℕ, zero, suc, ◌+◌, ◌-◌, ◌%◌, ◌<◌, Bool, true, false, cond, ◌&&◌, leb, ◌⊎◌, List, [], length, get_or, drop, Some, Ok, Err, Option, Result, sym, refl, ap, ◌∙◌, subst, arith}
+use Rattle.std.proofs.Common.{◌≡◌, ℕ, ◌+◌, ◌-◌, ◌%◌, ◌<◌, Bool, true, false, cond, ◌&&◌, leb, ◌⊎◌, List, [], length, get_or, Some, Ok, Err, Option, Result, sym, refl, ap, ◌∙◌, subst, arith}
 use mathlib.Core.Logic.◌⊎◌.{inl, inr}
+use Rattle.std.proofs.Math.Seq.{drop-nil}
 use Rattle.std.proofs.lemmas.Bool.{and_parts, and_from, le-leb, leb-true, both_ways}
 use Rattle.card.specs.declared.types.Card.{Card}
 use Rattle.sheet.specs.declared.types.Sheet.{Sheet}
@@ -23,10 +24,6 @@ use Rattle.dispatch.proofs.Goods.{Good}
 use Rattle.dispatch.proofs.Owing.{owes_given}
 use Rattle.dispatch.proofs.Invariant.{Core, Before, Amid}
 
-drop_none : (n : ℕ) → drop {A = List ℕ} n [] ≡ []
-drop_none zero = refl
-drop_none (suc n) = refl
-
 module _ {S : Type 0} (m : Local S) (p : Placement) (card : Card) (h : ℕ) (sheet : Sheet) (good : Good card h sheet) (s : S) (first : ℕ) (d : Dispatcher S) (calls : List Call) (core : Core m p card h sheet s first d (handed calls)) where
   abbrev of : ℕ → Account
   of i = get_or d.books.accounts i nothing
@@ -39,7 +36,7 @@ module _ {S : Type 0} (m : Local S) (p : Placement) (card : Card) (h : ℕ) (she
           let a = b.accounts i l in
           let g = ap (λ (a : Account). a.given) a in
           let o = ap (λ (a : Account). a.owed) a in
-          let e : given_of card h (handed calls) i ≡ 0 = ap (λ (zs : List Stamped). given_of card h zs i) b.empty ∙ ap (got (i + 1)) (drop_none (last_start [] - (last_start [] % h) % period_of card i)) in
+          let e : given_of card h (handed calls) i ≡ 0 = ap (λ (zs : List Stamped). given_of card h zs i) b.empty ∙ ap (got (i + 1)) (drop-nil (last_start [] - (last_start [] % h) % period_of card i)) in
           (omega (arith, g, e), omega (arith, g, o))
       go (inr a) =
           let sum = a.sums i l in

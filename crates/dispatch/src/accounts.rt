@@ -136,11 +136,9 @@ impl Books {
         ensures busy { self.new.busy ≡ self.old.busy }
         ensures seats { self.new.seats ≡ self.old.seats }
     {
-        // Kept: the number names the account and the task, and a placement tells one task at a time.
-        for i in 0..placement.task_count() {
-            let task = placement.task(usize::from(i));
-            let ticks = ticks_for(slice, i + 1);
-            self.pay(usize::from(i), task, renews(first, tick, task), ticks);
+        for (i, task) in placement.tasks().iter().enumerate() {
+            let ticks = ticks_for(slice, i as u8 + 1);
+            self.pay(i, *task, renews(first, tick, *task), ticks);
         }
     }
 

@@ -108,6 +108,7 @@ impl<S: LocalScheduler> Dispatcher<S> {
     }
 
     // Acceptance and start in one call.
+    // Kept: the promises of acceptance stand again, since a caller of this call reads them here.
     pub fn launch(
         card: &Card,
         sheet: &Sheet,
@@ -145,6 +146,7 @@ impl<S: LocalScheduler> Dispatcher<S> {
         Ok((frame, interval, true))
     }
 
+    // Kept: frame and interval are told by advance, since out of `place` they would come by an arm that is never reached.
     // Hands out the scheduler's choice in an interval, stamps it and enters it in the books.
     fn hand_out(&mut self, frame: u32, interval: u8, first: bool) -> Stamped
         requires place { self.old.place ≡ In frame interval }

@@ -70,6 +70,7 @@ fn leave_last<T: Default + Drop, const N: usize>(queue: &mut ArrayVec<T, N>) -> 
     ensures others { queue.new.items ≡ front queue.old.items }
     ensures room { array_vec_len queue.new < N }
 {
+    // Kept: by `pop` a proof would not know that there is room for one more then.
     queue.remove(queue.len() - 1)
 }
 

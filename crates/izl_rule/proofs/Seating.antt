@@ -4,6 +4,7 @@ use Rattle.std.specs.List.{AllByRecursion}
 use Rattle.std.proofs.lemmas.List.{length-set, get_or-set_other}
 use Rattle.std.proofs.lemmas.List.Sums.{sum_by-cons, sum_by-set}
 use Rattle.std.proofs.lemmas.Bool.{eq-eqb, ne_eqb, lt-ltb}
+use Rattle.chart.proofs.Repeated.{get_or_replicate_same}
 use Rattle.izl_rule.specs.declared.Running.{Running}
 use Rattle.izl_rule.specs.Rule.{row}
 use Rattle.izl_rule.specs.Invariant.{seated}
@@ -13,17 +14,12 @@ use Rattle.izl_rule.proofs.Lists.{bit}
 abbrev pub at : ℕ → List Running → ℕ
 at c = count_by (λ r. eqb c r.core)
 
-zeros : (n c : ℕ) → ◌≡◌ {A = ℕ} (get_or (replicate n 0) c 0) 0
-zeros zero c = refl
-zeros (suc n) zero = refl
-zeros (suc n) (suc c) = zeros n c
-
 pub length_row : (rs : List Running) → length (row rs) ≡ 16
 length_row [] = refl
 length_row (r ∷ rs) = length-set (row rs) r.core r.task ∙ length_row rs
 
 pub row_idle : (c : ℕ) (rs : List Running) → at c rs ≡ 0 → get_or (row rs) c 0 ≡ 0
-row_idle c [] h = zeros 16 c
+row_idle c [] h = get_or_replicate_same 16 c 0
 row_idle c (r ∷ rs) h =
     let e = sum_by-cons (λ (r : Running). cond (eqb c r.core) 1 0) r rs in
     get_or-set_other (row rs) r.core c r.task 0 (λ same. other (eqb c r.core) (eq-eqb c r.core same) (omega (arith, e)))

@@ -8,13 +8,10 @@ use Rattle.std.proofs.lemmas.List.Folds.{sum_by-replicate}
 use Rattle.std.proofs.ByRecursion.{All-append, All-get_or}
 use Rattle.std.proofs.lemmas.Bool.{cond_both, cases_lt}
 use Rattle.chart.specs.Charts.{Row, got, Once}
+use Rattle.chart.proofs.Repeated.{all_replicate}
 use Rattle.local.specs.Meaning.{Local, Handed, Fit, amount_of, share_of}
 use Rattle.local.specs.Intervals.{Slices, Interval, laid, Served, Each}
 use Rattle.local.specs.declared.slice.Slice.{Slice}
-
-all_replicate : (P : Row → Type 0) (n : ℕ) (row : Row) → P row → AllByRecursion P (replicate n row)
-all_replicate P zero row p = tt
-all_replicate P (suc n) row p = (p, all_replicate P n row p)
 
 module _ {S : Type 0} (m : Local S) where
   whole : (s : S) (zs : List Slice) (s' : S) → Slices m s zs s' → length (laid zs) ≡ m.left s

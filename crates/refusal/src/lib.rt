@@ -19,7 +19,7 @@ pub enum Layer {
 }
 
 // What a caller is told: layer, number and place. Places count from 1; 0 stands for none.
-// Kept: the number and the two places are the rules' own, and a line prints them so (a).
+// Kept: the number and the two places are the rules' own, and a line prints them so.
 #[derive(Clone, Copy, PartialEq, Eq, Debug)]
 pub struct Refusal {
     pub layer: Layer,

@@ -1,37 +1,21 @@
 -- From the judgement that an answer tells to what the answer agrees with.
 use Rattle.std.proofs.Common.{◌≡◌, true, is_ok, Ok, Err, Result, refl, ap, ◌∙◌, arith}
-use Rattle.refusal.specs.declared.FileFault.{FileFault}
-use Rattle.refusal.specs.declared.FileFault.TheVariants.{Stub, Counts, Layout, NoSpace}
-use Rattle.refusal.specs.declared.CardFault.{CardFault}
-use Rattle.refusal.specs.declared.CardFault.TheVariants.{File, Period, RunTime, LongFrame, Boundaries}
 use Rattle.refusal.specs.declared.Refusal.{Refusal}
 use Rattle.refusal.specs.declared.SheetFault.{SheetFault}
 use Rattle.refusal.specs.declared.SheetFault.TheVariants.{Card, Rows, WideShare, Overfull, WrongTotal}
-use Rattle.refusal.specs.Table.{file_told, card_told, sheet_told}
+use Rattle.refusal.specs.Table.{sheet_told}
 use Rattle.card.specs.declared.types.Card as Types
 use Rattle.card.specs.Verdicts.{Judged, fine}
 use Rattle.card.proofs.CardsJudged.{lawful_exactly}
+use Rattle.card.proofs.Faults.{fault_numbered}
 use Rattle.sheet.specs.declared.types.Sheet.{Sheet}
 use Rattle.sheet.specs.Tellings.{Answered, Tells}
 use Rattle.sheet.specs.Verdicts.{judged}
 use Rattle.sheet.proofs.Agreement.{agrees, equations}
 
 -- no refusal has the number 0
-file_bad : (e : FileFault) → (file_told e).number ≡ 0 → ⊥
-file_bad Stub z = omega arith
-file_bad Counts z = omega arith
-file_bad Layout z = omega arith
-file_bad NoSpace z = omega arith
-
-pub card_bad : (e : CardFault) → (card_told e).number ≡ 0 → ⊥
-card_bad (File e) z = file_bad e z
-card_bad (Period task) z = omega arith
-card_bad (RunTime task) z = omega arith
-card_bad (LongFrame task) z = omega arith
-card_bad Boundaries z = omega arith
-
 pub sheet_bad : (e : SheetFault) → (sheet_told e).number ≡ 0 → ⊥
-sheet_bad (Card e) z = card_bad e z
+sheet_bad (Card e) z = fault_numbered e z
 sheet_bad Rows z = omega arith
 sheet_bad (WideShare interval task) z = omega arith
 sheet_bad (Overfull interval) z = omega arith

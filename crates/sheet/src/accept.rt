@@ -36,6 +36,7 @@ impl Placement {
         Placement { plan: None }
     }
 
+    // Kept: what an answer agrees with is told clause by clause, since each is a promise.
     // Holds a lawful card and a sheet that has a timetable for it from now on, or is left as it is.
     pub fn accept(&mut self, card: &Card, sheet: &Sheet) -> Result<(), SheetFault>
         ensures agrees { Lawful card.now → Agrees card.now sheet.now (is_ok result) }

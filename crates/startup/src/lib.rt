@@ -31,6 +31,7 @@ pub fn plan_of(bytes: &[u8]) -> Result<(Card, Sheet), SheetFault>
 }
 
 // Launches what was read of a file; a refusal is carried up as it is.
+// Kept: with `?` and the launch in launch_file itself, the proof did not close without an answer of its own.
 fn launched<S: LocalScheduler + Drop>(
     plan: Result<(Card, Sheet), SheetFault>,
     scheduler: S,

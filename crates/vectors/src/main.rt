@@ -27,7 +27,7 @@ fn vector_agrees(rt: &HostRuntime, name: &str) -> io::Result<bool> {
 }
 
 fn main(rt: HostRuntime) -> io::Result<()> {
-    // Kept: a chain that counts would have to carry the errors of reading and the lines that it prints (d).
+    // Kept: a chain that counts would have to carry the errors of reading and the lines that it prints.
     let mut agreed = 0u32;
     for number in 1..=COUNT {
         let name = format!(in rt.alloc(); "{number:03}")?;

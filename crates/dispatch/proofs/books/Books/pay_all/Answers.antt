@@ -1,20 +1,26 @@
 use Rattle.std.proofs.Common.{◌≡◌, ℕ, ◌+◌, ◌*◌, ◌<◌, ◌≤◌, Bool, cond, ◌≢◌, List, length, get_or, set, sym, ap, ◌∙◌, subst, arith, below_more}
 use native.Mathlib.Nat as law
 use Rattle.card.specs.declared.types.Task.{Task}
+use Rattle.card.specs.Cards.{nobody}
+use Rattle.sheet.specs.declared.placement.Placement.{Placement}
 use Rattle.local.specs.Meaning.{seated}
-use Rattle.sheet.specs.Held.{held, count_in, task_in}
+use Rattle.sheet.specs.Held.{held, count_in, task_in, tasks_in}
 use Rattle.std.proofs.lemmas.List.{get_or-set_same, get_or-set_other, length-set}
 use Rattle.dispatch.specs.declared.books.Account.{Account}
 use Rattle.dispatch.specs.Books.{nothing, paid, paid_to, anew}
-use Rattle.dispatch.proofs.Filled.{period_there, few_there}
+use Rattle.dispatch.proofs.Filled.{period_there, few_there, tasks_count, task_among}
 use Rattle.dispatch.proofs.books.Books.pay_all.Goals as goal
+
+-- the loop's task is that of the placement
+task_now : {ts : List Task} (p : Placement) (i : ℕ) → ts ≡ tasks_in (held p) → get_or ts i nobody ≡ task_in (held p) i
+task_now p i e = ap (λ (ts : List Task). get_or ts i nobody) e ∙ task_among (held p) i
 
 pub renews-requires : goal.renews-requires
 renews-requires c =
     let p = c.args.placement.now in
-    let here : c.loop-i.i < count_in (held p) = omega (arith, c.loop-i-test.true, c.task_count-i-end.ensures) in
-    let task : c.task-task.result ≡ task_in (held p) c.loop-i.i = c.task-task.ensures ∙ ap (task_in (held p)) c.from.ensures in
-    subst (λ (t : Task). 1 ≤ t.period) (sym task) (period_there p c.loop-i.i here)
+    let items = c.tasks-task-items.ensures in
+    let here : c.loop-i.i < count_in (held p) = omega (arith, c.loop-i-test.true, ap length items, tasks_count (held p)) in
+    subst (λ (t : Task). 1 ≤ t.period) (sym (task_now p c.loop-i.i items)) (period_there p c.loop-i.i here)
 
 pub loop-i-preserved : goal.loop-i-preserved
 loop-i-preserved c =
@@ -22,19 +28,21 @@ loop-i-preserved c =
     let xs = c.loop-i.self.accounts in
     let i = c.loop-i.i in
     let z = c.args.slice.now in
-    let here : i < count_in (held p) = omega (arith, c.loop-i-test.true, c.task_count-i-end.ensures) in
+    let items = c.tasks-task-items.ensures in
+    let here : i < count_in (held p) = omega (arith, c.loop-i-test.true, ap length items, tasks_count (held p)) in
     let there : i < length xs = omega (arith, here, few_there p, c.loop-i.invariant.6) in
-    let task : c.task-task.result ≡ task_in (held p) i = c.task-task.ensures ∙ ap (task_in (held p)) c.from.ensures in
+    let t : Task = get_or c.tasks-task-items.result.now i nobody in
+    let task : t ≡ task_in (held p) i = task_now p i items in
     let pays : Task → Bool → Account → ℕ → Account = λ t b a n. paid t.run_time (cond b t.run_time a.owed) n in
-    let v : Account = pays c.task-task.result c.renews.result (get_or xs c.from-in-loop-i.result nothing) c.ticks_for-ticks.result in
-    let after : c.pay.new.self.accounts ≡ set xs i v = c.pay.ensures.accounts ∙ ap (λ (n : ℕ). set xs n v) c.from-in-loop-i.ensures in
+    let v : Account = pays t c.renews.result (get_or xs i nothing) c.ticks_for-ticks.result in
+    let after : c.pay.new.self.accounts ≡ set xs i v = c.pay.ensures.accounts in
     let renewed = c.renews.ensures in
     let ticks = c.ticks_for-ticks.ensures in
-    let old : get_or xs c.from-in-loop-i.result nothing ≡ get_or c.args.self.now.accounts i nothing = ap (λ (n : ℕ). get_or xs n nothing) c.from-in-loop-i.ensures ∙ c.loop-i.invariant.1 i (law.le_refl i) in
+    let old : get_or xs i nothing ≡ get_or c.args.self.now.accounts i nothing = c.loop-i.invariant.1 i (law.le_refl i) in
     let paying : v ≡ paid_to c.args.self.now c.args.first c.args.tick z i (task_in (held p) i) =
-    ap (λ (n : ℕ). pays c.task-task.result c.renews.result (get_or xs c.from-in-loop-i.result nothing) n) ticks
-    ∙ ap (λ (a : Account). pays c.task-task.result c.renews.result a (seated z (i + 1) * z.length)) old
-    ∙ ap (λ (b : Bool). pays c.task-task.result b (get_or c.args.self.now.accounts i nothing) (seated z (i + 1) * z.length)) renewed
+    ap (λ (n : ℕ). pays t c.renews.result (get_or xs i nothing) n) ticks
+    ∙ ap (λ (a : Account). pays t c.renews.result a (seated z (i + 1) * z.length)) old
+    ∙ ap (λ (b : Bool). pays t b (get_or c.args.self.now.accounts i nothing) (seated z (i + 1) * z.length)) renewed
     ∙ ap (λ (t : Task). pays t (anew c.args.first c.args.tick t) (get_or c.args.self.now.accounts i nothing) (seated z (i + 1) * z.length)) task in
     let other : (k : ℕ) → k ≢ i → get_or c.pay.new.self.accounts k nothing ≡ get_or xs k nothing = λ k ne. ap (λ (ys : List Account). get_or ys k nothing) after ∙ get_or-set_other xs i k v nothing ne in (
       below_more _ i
