@@ -24,19 +24,6 @@ fn put_all<T: Coded>(items: &[T], at: usize, out: &mut [u8])
     }
 }
 
-// Writes the shares of a sheet from a place on, row by row.
-fn put_rows(sheet: &Sheet, at: usize, out: &mut [u8])
-    requires { at + 4 * (sheet.now.rows * sheet.now.count) ≤ length out.old }
-    ensures is { out.new ≡ written out.old at (flat_map (bytes_of 4) (shares_of sheet.now)) }
-    ensures back { map (λ x. number_of (bytes_of 4 x)) (shares_of sheet.now) ≡ shares_of sheet.now }
-{
-    let count = usize::from(sheet.count());
-    // Kept: a sheet tells its rows by number alone (`Sheet::row`), so no iterator stands for k.
-    for k in 0..usize::from(sheet.rows()) {
-        put_all(sheet.row(k), at + u32::WIDTH * (k * count), out);
-    }
-}
-
 // Writes the trailer at a place.
 fn put_trailer(t: Trailer, at: usize, out: &mut [u8])
     requires { at + 12 ≤ length out.old }
@@ -91,7 +78,7 @@ fn put_file(note: &[u8], card: &Card, sheet: &Sheet, out: &mut [u8])
     let t = trailer_for(note.len(), card, sheet);
     put(note, 0, out);
     put_all(card.tasks(), t.card as usize, out);
-    put_rows(sheet, t.sheet as usize, out);
+    put_all(sheet.shares(), t.sheet as usize, out);
     put_trailer(t, t.offset(), out);
 }
 
