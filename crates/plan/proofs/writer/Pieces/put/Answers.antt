@@ -8,18 +8,18 @@ use Rattle.plan.proofs.Pieces.{length_joined}
 use Rattle.plan.proofs.Sizes.{length_tasks, length_shares}
 use Rattle.plan.proofs.Whole.{same_trailer}
 use Rattle.plan.proofs.Written.{written_four}
-use Rattle.plan.proofs.writer.put_file.Goals as goal
+use Rattle.plan.proofs.writer.Pieces.put.Goals as goal
 
 pub returns : goal.returns
 returns c =
-    let note = c.args.note.now in
-    let card = c.args.card.now in
-    let sheet = c.args.sheet.now in
-    let t = c.trailer_for-t.result in
-    let is = c.trailer_for-t.ensures in
+    let note = c.args.self.now.note.now in
+    let card = c.args.self.now.card.now in
+    let sheet = c.args.self.now.sheet.now in
+    let t = c.trailer-t.result in
+    let is = c.trailer-t.ensures in
     let tasks : c.tasks.result.now ≡ tasks_of card = c.tasks.ensures.all in
     let all : c.shares.result.now ≡ shares_of sheet = c.shares.ensures.all in
-    let cells : t.rows * t.count ≡ sheet.rows * sheet.count = cc (is.count, is.rows, c.requires.same) in
+    let cells : t.rows * t.count ≡ sheet.rows * sheet.count = cc (is.count, is.rows, c.args.self.now.same) in
     let foot : trailer_bytes t.card t.sheet t.cores t.count t.rows ≡ trailer_bytes (length note) (length note + 8 * length (tasks_of card)) card.cores (length (tasks_of card)) sheet.rows =
     same_trailer is.card (omega (arith, is.sheet, length_tasks card)) is.cores (omega (arith, is.count, length_tasks card)) is.rows in
     record {
