@@ -24,52 +24,12 @@ fn put_all<T: Coded>(items: &[T], at: usize, out: &mut [u8])
     }
 }
 
-// Writes the shares of a sheet from a place on, row by row.
-fn put_rows(sheet: &Sheet, at: usize, out: &mut [u8])
-    requires { at + 4 * (sheet.now.rows * sheet.now.count) ≤ length out.old }
-    ensures is { out.new ≡ written out.old at (flat_map (bytes_of 4) (shares_of sheet.now)) }
-    ensures back { map (λ x. number_of (bytes_of 4 x)) (shares_of sheet.now) ≡ shares_of sheet.now }
-{
-    let count = usize::from(sheet.count());
-    // Kept: a sheet tells its rows by number alone (`Sheet::row`), so no iterator stands for k.
-    for k in 0..usize::from(sheet.rows()) {
-        put_all(sheet.row(k), at + u32::WIDTH * (k * count), out);
-    }
-}
-
 // Writes the trailer at a place.
 fn put_trailer(t: Trailer, at: usize, out: &mut [u8])
     requires { at + 12 ≤ length out.old }
     ensures { out.new ≡ written out.old at (trailer_bytes t.card t.sheet t.cores t.count t.rows) }
 {
     put(&t.bytes(), at, out);
-}
-
-// The trailer behind a note of so many bytes, a card and a sheet.
-fn trailer_for(note: usize, card: &Card, sheet: &Sheet) -> Trailer
-    requires { note ≤ 255 }
-    ensures card { result.card ≡ note }
-    ensures sheet { result.sheet ≡ note + 8 * card.now.count }
-    ensures cores { result.cores ≡ card.now.cores }
-    ensures count { result.count ≡ card.now.count }
-    ensures rows { result.rows ≡ sheet.now.rows }
-{
-    let count = card.task_count();
-    Trailer {
-        card: note as u32,
-        sheet: sheet_offset(note, count) as u32,
-        cores: card.cores(),
-        count,
-        rows: u16::from(sheet.rows()),
-    }
-}
-
-// How many bytes the file has.
-fn file_size(note: usize, card: &Card, sheet: &Sheet) -> usize
-    requires { note ≤ 255 }
-    ensures { result ≡ note + 8 * card.now.count + 4 * (sheet.now.rows * card.now.count) + 12 }
-{
-    trailer_for(note, card, sheet).offset() + TRAILER
 }
 
 // The note is short enough, and the sheet is one for the card's tasks.
@@ -79,20 +39,56 @@ fn can_write(note: usize, card: &Card, sheet: &Sheet) -> bool
     note <= MAX_NOTE && sheet.count() == card.task_count()
 }
 
-// Writes the file of a note, a card and a sheet.
-fn put_file(note: &[u8], card: &Card, sheet: &Sheet, out: &mut [u8])
-    requires short { length note.now ≤ 255 }
-    requires same { sheet.now.count ≡ card.now.count }
-    requires room { length note.now + 8 * card.now.count + 4 * (sheet.now.rows * card.now.count) + 12 ≤ length out.old }
-    ensures is { out.new ≡ written out.old 0 (file_for note.now card.now sheet.now) }
-    ensures tasks { map (λ t. entry_of (entry_bytes t)) (tasks_of card.now) ≡ tasks_of card.now }
-    ensures shares { map (λ x. number_of (bytes_of 4 x)) (shares_of sheet.now) ≡ shares_of sheet.now }
-{
-    let t = trailer_for(note.len(), card, sheet);
-    put(note, 0, out);
-    put_all(card.tasks(), t.card as usize, out);
-    put_rows(sheet, t.sheet as usize, out);
-    put_trailer(t, t.offset(), out);
+// What a file is written from: a note that is short enough, and a sheet for the card's tasks.
+#[derive(Clone, Copy)]
+struct Pieces<'a> {
+    note: &'a [u8],
+    card: &'a Card,
+    sheet: &'a Sheet,
+    ghost short: { length note.now ≤ 255 },
+    ghost same: { sheet.now.count ≡ card.now.count },
+}
+
+impl Pieces<'_> {
+    // The trailer of the file.
+    fn trailer(&self) -> Trailer
+        ensures card { result.card ≡ length self.now.note.now }
+        ensures sheet { result.sheet ≡ length self.now.note.now + 8 * self.now.card.now.count }
+        ensures cores { result.cores ≡ self.now.card.now.cores }
+        ensures count { result.count ≡ self.now.card.now.count }
+        ensures rows { result.rows ≡ self.now.sheet.now.rows }
+    {
+        let note = self.note.len();
+        let count = self.card.task_count();
+        Trailer {
+            card: note as u32,
+            sheet: sheet_offset(note, count) as u32,
+            cores: self.card.cores(),
+            count,
+            rows: u16::from(self.sheet.rows()),
+        }
+    }
+
+    // How many bytes the file has.
+    fn size(&self) -> usize
+        ensures { result ≡ length self.now.note.now + 8 * self.now.card.now.count + 4 * (self.now.sheet.now.rows * self.now.card.now.count) + 12 }
+    {
+        self.trailer().offset() + TRAILER
+    }
+
+    // Writes the file.
+    fn put(&self, out: &mut [u8])
+        requires { length self.now.note.now + 8 * self.now.card.now.count + 4 * (self.now.sheet.now.rows * self.now.card.now.count) + 12 ≤ length out.old }
+        ensures is { out.new ≡ written out.old 0 (file_for self.now.note.now self.now.card.now self.now.sheet.now) }
+        ensures tasks { map (λ t. entry_of (entry_bytes t)) (tasks_of self.now.card.now) ≡ tasks_of self.now.card.now }
+        ensures shares { map (λ x. number_of (bytes_of 4 x)) (shares_of self.now.sheet.now) ≡ shares_of self.now.sheet.now }
+    {
+        let t = self.trailer();
+        put(self.note, 0, out);
+        put_all(self.card.tasks(), t.card as usize, out);
+        put_all(self.sheet.shares(), t.sheet as usize, out);
+        put_trailer(t, t.offset(), out);
+    }
 }
 
 // Writes the file into the first bytes of `out`, and tells its length. A refusal changes no byte.
@@ -105,10 +101,11 @@ pub fn write(note: &[u8], card: &Card, sheet: &Sheet, out: &mut [u8]) -> Result<
     if !can_write(note.len(), card, sheet) {
         return Err(FileFault::Layout);
     }
-    let size = file_size(note.len(), card, sheet);
+    let pieces = Pieces { note, card, sheet };
+    let size = pieces.size();
     if out.len() < size {
         return Err(FileFault::NoSpace);
     }
-    put_file(note, card, sheet, out);
+    pieces.put(out);
     Ok(size)
 }
