@@ -25,7 +25,7 @@ fn read_all<T: Coded, const N: usize>(bytes: &[u8], n: usize, none: T) -> [T; N]
     ensures back { flat_map T.code (parts T.WIDTH T.decode n bytes.now) ≡ take (T.WIDTH * n) bytes.now }
 {
     let mut table = [none; N];
-    // Kept: the place of item i in the bytes. Through a zip with chunks of them a proof would not know the items.
+    // Kept: the place of item i in the bytes. Zipped with chunks of them (tried) a width above 0 is asked, and no item is known that an iterator lent.
     for (i, place) in table[..n].iter_mut().enumerate() {
         *place = T::first(&bytes[T::WIDTH * i..]);
     }
