@@ -6,11 +6,13 @@ ghost use Rattle.wrap.specs.Told.{view};
 use crate::state::Wrap;
 use local::Slice;
 use std::array;
+use std::ops::Range;
 
-fn in_stretch(start: u32, end: u32, place: u32) -> bool
-    ensures { result ≡ (nat_le start place && nat_lt place end) }
+// Kept: apart from task_at, so that the bounds of a stretch are told and proved by themselves.
+fn in_stretch(stretch: &Range<u32>, place: u32) -> bool
+    ensures { result ≡ (nat_le stretch.now.start place && nat_lt place stretch.now.end) }
 {
-    (start..end).contains(&place)
+    stretch.contains(&place)
 }
 
 // The nearest cut so far, or the tick where a share ends, if that is nearer.
@@ -25,10 +27,10 @@ fn nearer(nearest: u32, share: u32, end: u32, past: u32) -> u32
 }
 
 // How many places two stretches have in common.
-fn common(start: u32, end: u32, low: u32, high: u32) -> u32
-    ensures { result ≡ min end high - max start low }
+fn common(a: &Range<u32>, b: &Range<u32>) -> u32
+    ensures { result ≡ min a.now.end b.now.end - max a.now.start b.now.start }
 {
-    end.min(high).saturating_sub(start.max(low))
+    a.end.min(b.end).saturating_sub(a.start.max(b.start))
 }
 
 // The place where shares end.
@@ -54,11 +56,11 @@ impl Wrap {
     {
         let mut start = 0;
         for (i, share) in self.shares.iter().enumerate() {
-            let end = start + *share;
-            if in_stretch(start, end, place) {
+            let stretch = start..start + *share;
+            if in_stretch(&stretch, place) {
                 return i as u8 + 1;
             }
-            start = end;
+            start = stretch.end;
         }
         0
     }
@@ -106,20 +108,20 @@ impl Wrap {
     }
 
     // How many places of a stretch are still to come on a core, from 0.
-    fn places_on(&self, core: u8, start: u32, end: u32) -> u32
+    fn places_on(&self, core: u8, stretch: &Range<u32>) -> u32
         requires { core < self.now.width }
-        ensures { result ≡ min end (core * self.now.length + self.now.length) - max start (core * self.now.length + offset (view self.now)) }
+        ensures { result ≡ min stretch.now.end (core * self.now.length + self.now.length) - max stretch.now.start (core * self.now.length + offset (view self.now)) }
     {
         let first = u32::from(core) * self.length;
-        common(start, end, first + self.offset(), first + self.length)
+        common(stretch, &(first + self.offset()..first + self.length))
     }
 
     // How many places of a stretch are still to come.
-    fn places_left(&self, start: u32, end: u32) -> u32
-        ensures { result ≡ meets start end self.now.length (offset (view self.now)) self.now.width }
+    fn places_left(&self, stretch: &Range<u32>) -> u32
+        ensures { result ≡ meets stretch.now.start stretch.now.end self.now.length (offset (view self.now)) self.now.width }
     {
         (0..self.width)
-            .map(|core| self.places_on(core, start, end))
+            .map(|core| self.places_on(core, stretch))
             .sum()
     }
 
@@ -130,6 +132,6 @@ impl Wrap {
         ensures { result ≡ amount (view self.now) task }
     {
         let start = line_end(&self.shares[..task - 1]);
-        self.places_left(start, start + self.shares[task - 1])
+        self.places_left(&(start..start + self.shares[task - 1]))
     }
 }

@@ -1,4 +1,4 @@
-use Rattle.std.proofs.Common.{◌≡◌, ℕ, ◌+◌, ◌<◌, true, ◌&&◌, ltb, leb, length, sym, ap, ◌∙◌, add-one, arith}
+use Rattle.std.proofs.Common.{◌≡◌, ◌+◌, ◌<◌, length, sym, ap, ◌∙◌, add-one, arith}
 use Rattle.std.proofs.lemmas.Bool.Decides.{nat_tests}
 use Rattle.chart.proofs.Laying.{whose_is}
 use Rattle.wrap.specs.Wrap.{share_at, line_end}
@@ -6,17 +6,14 @@ use Rattle.wrap.proofs.Steady.{behind_none}
 use Rattle.wrap.proofs.Room.{line_more, line_short}
 use Rattle.wrap.proofs.state.Wrap.task_at.Goals as goal
 
-below : (a b p : ℕ) → true ≡ (leb a p && ltb p b) → p < b
-below a b p e = grind (arith, nat_tests)
-
-pub overflow_add-end : goal.overflow_add-end
-overflow_add-end c = omega (arith, c.loop-i.invariant.0, line_more c.args.self.now.shares c.loop-i.i, line_short c.args.self.now (c.loop-i.i + 1) (omega arith))
+pub overflow_add-stretch : goal.overflow_add-stretch
+overflow_add-stretch c = omega (arith, c.loop-i.invariant.0, line_more c.args.self.now.shares c.loop-i.i, line_short c.args.self.now (c.loop-i.i + 1) (omega arith))
 
 pub returns-then-in_stretch : goal.returns-then-in_stretch
 returns-then-in_stretch c =
     let w = c.args.self.now in
     let i = c.loop-i.i in
-    let end : c.args.place < c.loop-i.start + share_at w.shares i = below c.loop-i.start (c.loop-i.start + share_at w.shares i) c.args.place c.if-in_stretch.ensures in
+    let end : c.args.place < c.loop-i.start + share_at w.shares i = grind (arith, nat_tests, c.if-in_stretch.ensures) in
     add-one i
     ∙ sym (whose_is (share_at w.shares) (length w.shares) c.args.place i (omega (arith, w.full, c.loop-i-test.true)) (omega (arith, c.loop-i.invariant.0, c.loop-i.invariant.1)) (omega (arith, c.loop-i.invariant.0, end)))
 
