@@ -1,5 +1,5 @@
 -- What holds of one thing holds of it repeated.
-use Rattle.std.proofs.Common.{◌≡◌, ℕ, zero, suc, List, get_or, replicate, refl}
+use Rattle.std.proofs.Common.{◌≡◌, ℕ, zero, suc, get_or, replicate, refl}
 use Rattle.std.specs.List.{AllByRecursion}
 
 pub all_replicate : {X : Type 0} (P : X → Type 0) (n : ℕ) (x : X) → P x → AllByRecursion P (replicate n x)
