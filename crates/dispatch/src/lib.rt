@@ -56,6 +56,7 @@ fn row_of(placement: &Placement, interval: u8) -> &[u32]
 }
 
 // The length of an interval.
+// Kept: as sheet has it of a judgement, but of a placement, which may be empty.
 fn length_of(placement: &Placement, interval: u8) -> u32
     ensures { result ≡ start_in (held placement.now) (interval + 1) - start_in (held placement.now) interval }
 {

@@ -48,6 +48,7 @@ fn has_ended(last: Running) -> bool
 }
 
 // The task of a core goes to the head of the waiting queue, unless it has ended.
+// Kept: no From, since a Waiting is made of a Running here alone, and loses its core.
 fn put_back(queue: &mut ArrayVec<Waiting, MAX_TASKS>, last: Running)
     requires { array_vec_len queue.old < 32 }
     ensures { queue.new.items ≡ put_back last queue.old.items }

@@ -76,6 +76,7 @@ fn print_boundaries(rt: &HostRuntime, intervals: &Intervals) -> io::Result<()> {
     println!(rt)
 }
 
+// Kept: blocks makes these lines too, but as one text of a whole frame; here accounts are printed between them.
 fn print_head(rt: &HostRuntime, letter: char, card: &Card, sheet: &Sheet) -> io::Result<()> {
     let head = HeadLine {
         letter,
