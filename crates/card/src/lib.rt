@@ -27,6 +27,7 @@ pub const MAX_CORES: u8 = 16;
 pub const MAX_TASKS: u8 = 32;
 
 // The first `count` tasks, and none behind them.
+// Kept: the count beside the table, as in Card::new.
 #[tactic(auto, using(crate::proofs::Padding::padding_behind))]
 fn first_tasks(count: u8, tasks: &[Task; 32]) -> [Task; 32]
     requires { count ≤ 32 }

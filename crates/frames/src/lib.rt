@@ -62,6 +62,7 @@ fn frame_length(card: &Card) -> Result<u64, SheetFault>
 }
 
 // The frame with this number.
+// Kept: card and sheet apart, here and above: a pair of them would be made at each call and taken apart in it.
 pub fn frame_of<S: LocalScheduler + Drop>(
     heap: Global,
     card: &Card,

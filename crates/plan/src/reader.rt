@@ -18,6 +18,7 @@ const TASKS: usize = MAX_TASKS as usize;
 const SHARES: usize = MAX_ROWS as usize * TASKS;
 
 // The first `n` items in a table, with `none` behind them.
+// Kept: the number beside the bytes, which have more behind the items.
 fn read_all<T: Coded, const N: usize>(bytes: &[u8], n: usize, none: T) -> [T; N]
     requires places { n ≤ N }
     requires bytes { T.WIDTH * n ≤ length bytes.now }
