@@ -1,7 +1,7 @@
 // A frame under one scheduler as text: a head line, a line for each slice, and their sum.
 #![tactic(auto)]
 
-ghost use Rattle.std.specs.Prelude.{◌≡◌, ◌≤◌, IfOk, string_bytes};
+ghost use Rattle.std.specs.Prelude.{◌≡◌, ◌≤◌, take, IfOk, string_bytes};
 ghost use Rattle.blocks.specs.Blocks.{block_text, line_text};
 ghost use Rattle.text.specs.Lines.{slice_text};
 
@@ -24,14 +24,15 @@ fn head_line<S: LocalScheduler>(card: &Card, sheet: &Sheet) -> HeadLine
     }
 }
 
-fn slice_line(cores: u8, stamped: &Stamped) -> SliceLine<'_>
+fn slice_line(cores: u8, stamped: &Stamped) -> SliceLine
     requires { cores ≤ 16 }
-    ensures { slice_text result.stamp result.length result.seats.now ≡ line_text cores stamped.now }
+    ensures { slice_text result.stamp result.length (take result.cores result.seats) ≡ line_text cores stamped.now }
 {
     SliceLine {
         stamp: stamped.stamp,
         length: stamped.slice.length,
-        seats: &stamped.slice.seats[..usize::from(cores)],
+        cores,
+        seats: stamped.slice.seats,
     }
 }
 

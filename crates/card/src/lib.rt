@@ -107,8 +107,8 @@ impl Card {
     {
         let v = self.intervals().ok()?;
         let task = self.tasks().get(usize::from(task).checked_sub(1)?)?;
-        let start = v.starts().get(usize::from(interval).checked_sub(1)?)?;
-        Some(window_at(task.period, *start))
+        let start = v.begins(interval)?;
+        Some(window_at(task.period, start))
     }
 
     // The window of a task in an interval, both counted from 1; 0 and 0 for an unlawful card, or a task or interval that it lacks.

@@ -61,14 +61,14 @@ fn is_switch(before: u8, seat: u8) -> bool
 }
 
 // How many cores switch, of those side by side.
-fn switches(before: &[u8], seats: &[u8]) -> usize
+fn switches(before: &[u8; 16], seats: &[u8; 16]) -> usize
     ensures { result ≡ count_by switches_core (zip before.now seats.now) }
 {
     before
         .iter()
         .zip(seats)
-        .filter(|(before, seat)| is_switch(**before, **seat))
-        .count()
+        .map(|(before, seat)| usize::from(is_switch(*before, *seat)))
+        .sum()
 }
 
 // The switches into a slice with these seats; where it begins an interval every seated core counts.
@@ -87,7 +87,7 @@ fn seats_of(seats: &[u8; 16], task: u8) -> usize
     ensures count { result ≡ count_by (nat_eq task) seats.now }
     ensures few { result ≤ 16 }
 {
-    seats.iter().filter(|seat| **seat == task).count()
+    seats.iter().map(|seat| usize::from(*seat == task)).sum()
 }
 
 // The ticks that a slice gives to a task.

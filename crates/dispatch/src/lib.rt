@@ -110,6 +110,8 @@ impl<S: LocalScheduler> Dispatcher<S> {
 
     // Acceptance and start in one call.
     // Kept: the promises of acceptance stand again, since a caller of this call reads them here.
+    // Never inlined: built into its callers, the whole dispatcher is moved about in them.
+    #[inline(never)]
     pub fn launch(
         card: &Card,
         sheet: &Sheet,

@@ -91,7 +91,8 @@ fn print_slice(rt: &HostRuntime, card: &Card, stamped: &Stamped) -> io::Result<(
     let line = SliceLine {
         stamp: stamped.stamp,
         length: stamped.slice.length,
-        seats: &stamped.slice.seats[..usize::from(card.cores())],
+        cores: card.cores(),
+        seats: stamped.slice.seats,
     };
     print!(rt; "{line}")
 }

@@ -1,7 +1,7 @@
 // The lines that a program prints of a frame, each ended by a line feed.
 #![tactic(auto)]
 
-ghost use Rattle.std.specs.Prelude.{Some};
+ghost use Rattle.std.specs.Prelude.{◌≤◌, take, Some};
 ghost use Rattle.text.specs.Lines.{head_text, slice_text, sum_text, refused_text};
 
 use refusal::Refusal;
@@ -18,10 +18,12 @@ pub struct HeadLine {
 
 // A slice's stamp and length, and the seats of its cores.
 #[derive(Clone, Copy)]
-pub struct SliceLine<'a> {
+pub struct SliceLine {
     pub stamp: u64,
     pub length: u32,
-    pub seats: &'a [u8],
+    pub cores: u8,
+    pub seats: [u8; 16],
+    ghost few: { cores ≤ 16 },
 }
 
 // Slices, switches and busy ticks.
@@ -48,12 +50,12 @@ impl fmt::Display for HeadLine {
     }
 }
 
-impl fmt::Display for SliceLine<'_> {
-    ghost output = { λ s. Some (slice_text s.stamp s.length s.seats.now) };
+impl fmt::Display for SliceLine {
+    ghost output = { λ s. Some (slice_text s.stamp s.length (take s.cores s.seats)) };
 
     fn fmt<W: fmt::Write>(&self, f: &mut fmt::Formatter<W>) -> fmt::Result {
         write!(f, "{} {}", self.stamp, self.length)?;
-        for seat in self.seats {
+        for seat in &self.seats[..usize::from(self.cores)] {
             write!(f, " {seat}")?;
         }
         writeln!(f)

@@ -12,4 +12,4 @@ pub returns : goal.returns
 returns c =
     let s = subst Sound c.self.view_is c.self.invariant in
     let h = told_handed c.args.self.now _ c.step.result s c.requires (c.step.ensures.chosen ∙ ap choice c.self.view_is) (c.step.ensures.does ∙ ap after c.self.view_is) in
-    record { handed = h; busy = busy c.args.self.now _ c.step.result s h }
+    record { handed = h; busy = busy c.args.self.now _ c.step.result s h; sound = invariant_of-self c }
