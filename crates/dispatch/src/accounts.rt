@@ -61,6 +61,7 @@ fn is_switch(before: u8, seat: u8) -> bool
 }
 
 // How many cores switch, of those side by side.
+// Summed, as in seats_of: ones and zeros are added up for all cores at once, where a filter and a count would go core by core.
 fn switches(before: &[u8; 16], seats: &[u8; 16]) -> usize
     ensures { result ≡ count_by switches_core (zip before.now seats.now) }
 {
