@@ -1,27 +1,52 @@
 -- The slices that IZL hands out.
-use Rattle.std.proofs.Common.{◌≡◌, ℕ, ◌≤◌, List, [], ◌∷◌, length, sym, ap, ◌∙◌, subst, arith}
+use Rattle.std.proofs.Common.{◌≡◌, ℕ, ◌≤◌, List, length, sym, ap, ◌∙◌, subst}
 use Rattle.std.proofs.lemmas.Bool.{ltb-true}
-use Rattle.local.specs.Intervals.{Slices, Each}
 use Rattle.local.specs.Masks.{seated_cores}
-use Rattle.local.specs.Meaning.{Handed, Loaded}
+use Rattle.local.specs.Meaning.{Handed, Fit, Loaded}
 use Rattle.local.specs.declared.slice.Slice.{Slice}
-use Rattle.local.proofs.Intervals.{served}
-use Rattle.izl_rule.specs.Rule.{State, choice, after}
-use Rattle.izl_rule.specs.Invariant.{Sound}
-use Rattle.izl_rule.proofs.Handing.{handed, after_sound, all_seated}
+use Rattle.local.proofs.Intervals.{served, each}
+use Rattle.izl_rule.specs.Rule.{State, choice, after, load}
+use Rattle.izl_rule.specs.Meant.{meaning}
+use Rattle.izl_rule.proofs.Handing.{handed, all_seated}
+use Rattle.izl_rule.proofs.Loading.{loaded}
+use Rattle.izl.specs.SoundState.{SoundState}
 use Rattle.izl.specs.Told.{told}
 use Rattle.izl.specs.Served.{Busy, Serves}
 
-pub told_handed : (s s' : State) (z : Slice) → Sound s → 1 ≤ s.left → z ≡ choice s → s' ≡ after s → Handed told s z s'
-told_handed s s' z h l a e = subst (λ (x : State). Handed told s z x) (sym e) (subst (λ (y : Slice). Handed told s y (after s)) (sym a) (handed s h l))
+-- what the rule hands out, of states that are known to be sound
+handed_sound : (s s' : SoundState) (z : Slice) → Handed meaning s.state z s'.state → Handed told s z s'
+handed_sound s s' z h = record {
+  chosen = h.chosen;
+  some = h.some;
+  within = h.within;
+  above_idle = h.above_idle;
+  once = h.once;
+  enough = h.enough;
+  same_width = h.same_width;
+  ticks = h.ticks;
+  amounts = h.amounts;
+  fits = h.fits;
+  fewer = h.fewer;
+  some_left = h.some_left;
+  goes = h.goes;
+}
 
-pub busy : (s s₁ : State) (z : Slice) → Sound s → Handed told s z s₁ → Busy s z
-busy s s₁ z h g wait = ap (λ (y : Slice). seated_cores y.seats) g.chosen ∙ all_seated s h.held (ltb-true 0 (length s.waiting) wait)
+pub told_handed : (s s' : SoundState) (z : Slice) → 1 ≤ s.state.left → z ≡ choice s.state → s'.state ≡ after s.state → Handed told s z s'
+told_handed s s' z l a e =
+    handed_sound s s' z (subst (λ (x : State). Handed meaning s.state z x) (sym e) (subst (λ (y : Slice). Handed meaning s.state y (after s.state)) (sym a) (handed s.state s.sound l)))
 
-each_busy : (s : State) (zs : List Slice) (s' : State) (e : Slices told s zs s') → Sound s → Each told Busy s zs s' e
-each_busy s [] s' e h = tt
-each_busy s (z ∷ zs) s' e h =
-    (busy s e.0 z h e.1, each_busy e.0 zs s' e.2 (subst Sound (sym e.1.goes) (after_sound s h (omega (arith, e.1.some, e.1.within)))))
+-- the same of what it loads
+loaded_sound : (s s' : SoundState) (width len : ℕ) (shares : List ℕ) → Loaded meaning s.state width len shares s'.state → Loaded told s width len shares s'
+loaded_sound s s' width len shares l = record
+    { fit = l.fit; cores = l.cores; ticks = l.ticks; amounts = l.amounts; some_slice = l.some_slice; few_slices = l.few_slices; goes = l.goes }
 
-pub serves : (s s₁ : State) (width len : ℕ) (shares : List ℕ) → Sound s₁ → Loaded told s width len shares s₁ → Serves s₁ len shares
-serves s s₁ width len shares h l zs s' e = (served told s width len shares zs s' (s₁, l, e), each_busy s₁ zs s' e h)
+pub told_loaded : (s s' : SoundState) (width len : ℕ) (shares : List ℕ) → Fit width len shares → s'.state ≡ load width len shares → Loaded told s width len shares s'
+told_loaded s s' width len shares f e =
+    loaded_sound s s' width len shares (subst (λ (x : State). Loaded meaning s.state width len shares x) (sym e) (loaded width len shares f s.state))
+
+-- the slices of an interval
+pub busy : (s s₁ : SoundState) (z : Slice) → Handed told s z s₁ → Busy s z
+busy s s₁ z h wait = ap (λ (y : Slice). seated_cores y.seats) h.chosen ∙ all_seated s.state s.sound.held (ltb-true 0 (length s.state.waiting) wait)
+
+pub serves : (s s₁ : SoundState) (width len : ℕ) (shares : List ℕ) → Loaded told s width len shares s₁ → Serves s₁ len shares
+serves s s₁ width len shares l zs s' e = (served told s width len shares zs s' (s₁, l, e), each told Busy busy s₁ zs s' e)

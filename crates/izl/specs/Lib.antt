@@ -1,3 +1,4 @@
 pub mod View
+pub mod SoundState
 pub mod Told
 pub mod Served

@@ -4,8 +4,7 @@
 ghost use Rattle.std.specs.Prelude.{◌≡◌, ◌≤◌, IfOk, MatchResult, OnOk};
 ghost use Rattle.refusal.specs.Table.{local_told, refusal};
 ghost use Rattle.refusal.specs.declared.Layer.TheVariants.{Local as LocalLayer};
-ghost use Rattle.local.specs.Meaning.{Fit, Fresh, Loaded, Handed, amount_of};
-ghost use Rattle.izl_rule.specs.Invariant.{Sound};
+ghost use Rattle.local.specs.Meaning.{Fit, Fresh, Loaded, Handed};
 ghost use Rattle.izl_rule.specs.Meant.{new};
 ghost use Rattle.izl.specs.Told.{told};
 ghost use Rattle.izl.specs.Served.{Busy, Serves};
@@ -28,7 +27,6 @@ impl Izl {
         requires { Fit width length shares.now }
         ensures loaded { Loaded told self.old width length shares.now self.new }
         ensures serves { Serves self.new length shares.now }
-        ensures sound { Sound self.new }
     {
         self.tables.begin(width, length, shares);
     }
@@ -38,7 +36,6 @@ impl Izl {
         requires { 1 ≤ told.left self.old }
         ensures handed { Handed told self.old result self.new }
         ensures busy { Busy self.old result }
-        ensures sound { Sound self.new }
     {
         self.tables.step()
     }
@@ -53,8 +50,7 @@ impl LocalScheduler for Izl {
 
     fn new() -> Self
         ensures fresh { Fresh told result }
-        ensures is { result ≡ new }
-        ensures sound { Sound result }
+        ensures is { result.state ≡ new }
     {
         Izl {
             tables: Tables::default(),
@@ -64,10 +60,7 @@ impl LocalScheduler for Izl {
     fn load(&mut self, width: u8, length: u32, shares: &[u32]) -> Result<(), LocalFault>
         ensures loaded { MatchResult result (λ _. Loaded told self.old width length shares.now self.new) (λ e. (local_told e ≡ refusal LocalLayer 31 0 0) × (Fit width length shares.now → ⊥) × (self.new ≡ self.old)) }
         ensures serves { OnOk result (Serves self.new length shares.now) }
-        ensures sound { Sound self.new }
     {
-        // Read, so that a refusal tells too that the state is sound.
-        let _ = &self.tables;
         if !fits(width, length, shares) {
             return Err(LocalFault::Misfit);
         }
@@ -78,7 +71,6 @@ impl LocalScheduler for Izl {
     fn next(&mut self) -> Result<Slice, LocalFault>
         ensures handed { MatchResult result (λ z. Handed told self.old z self.new) (λ e. (local_told e ≡ refusal LocalLayer 32 0 0) × (told.left self.old ≡ 0) × (self.new ≡ self.old)) }
         ensures busy { IfOk result (λ z. Busy self.old z) }
-        ensures sound { Sound self.new }
     {
         if self.ticks_left() == 0 {
             return Err(LocalFault::Over);
@@ -86,17 +78,11 @@ impl LocalScheduler for Izl {
         Ok(self.hand_out())
     }
 
-    fn ticks_left(&self) -> u32
-        ensures left { result ≡ told.left self.now }
-        ensures sound { Sound self.now }
-    {
+    fn ticks_left(&self) -> u32 {
         self.tables.left
     }
 
-    fn amount(&self, task: u32) -> u32
-        ensures left { result ≡ amount_of told self.now task }
-        ensures sound { Sound self.now }
-    {
+    fn amount(&self, task: u32) -> u32 {
         if (1..=MAX_TASKS as u32).contains(&task) {
             self.tables.amount_of(task)
         } else {

@@ -3,4 +3,4 @@ use Rattle.izl.specs.View.{view}
 use Rattle.izl.proofs.IzlLocalScheduler.amount.Goals as goal
 
 pub amount_of-requires : goal.amount_of-requires
-amount_of-requires c = amount_fits (view c.self.inside.tables) c.self.invariant.held c.args.task
+amount_of-requires c = amount_fits (view c.self.inside.tables) c.self.inside.sound.held c.args.task
