@@ -1,4 +1,4 @@
--- What a value of IZL is for contracts: a state of the rule, and with it what every such state keeps.
+-- What contracts see of an `Izl`: a state of the rule, and that it is sound.
 use Rattle.izl_rule.specs.Rule.{State}
 use Rattle.izl_rule.specs.Invariant.{Sound}
 

@@ -1,8 +1,8 @@
 -- A slice is handed out as a local scheduler means it, and the next state is as sound.
-use Rattle.std.proofs.Common.{◌≡◌, ℕ, ◌+◌, ◌*◌, ◌<◌, ◌≤◌, cond, ◌&&◌, eqb, leb, ◌⊎◌, List, [], ◌∷◌, ◌++◌, map, length, get_or, count_by, sym, refl, ap, ◌∙◌, inl, inr, mul-le-mul_right, add-mul, arith}
+use Rattle.std.proofs.Common.{◌≡◌, ℕ, ◌+◌, ◌*◌, ◌<◌, ◌≤◌, cond, ◌&&◌, eqb, ltb, leb, ◌⊎◌, List, [], ◌∷◌, ◌++◌, map, length, get_or, count_by, sym, refl, ap, ◌∙◌, inl, inr, mul-le-mul_right, add-mul, arith}
 use Rattle.std.specs.List.{AllByRecursion}
 use Rattle.std.proofs.lemmas.List.{length-append}
-use Rattle.std.proofs.lemmas.List.Sums.{sum_by-append}
+use Rattle.std.proofs.lemmas.List.Sums.{sum_by-append, count_by-le-length}
 use Rattle.std.proofs.ByRecursion.{All-append, All-weaker, All-map}
 use Rattle.std.proofs.lemmas.Bool.{cond_both, cases_lt, le-leb, lt-leb, and_from, and_right, cond-true, cond-false, ne_eqb, eqb-false}
 use Rattle.local.specs.Masks.{seated_cores}
@@ -17,7 +17,7 @@ use Rattle.izl_rule.proofs.Lists.{sum_by_map, held_le}
 use Rattle.izl_rule.proofs.Merging.{merged_amount}
 use Rattle.izl_rule.proofs.Passages.{size, busy, Passage, a_passage, line_length, jobs_length}
 use Rattle.izl_rule.proofs.Settling.{Readied, readied}
-use Rattle.izl_rule.proofs.Seating.{at, row_idle, row_count, row_full, at_none, numbered_all}
+use Rattle.izl_rule.proofs.Seating.{at, length_row, row_idle, row_count, row_full, at_none, numbered_all}
 
 module _ (s : State) (h : Held (merged s)) where
   abbrev places : List Running
@@ -49,12 +49,18 @@ module _ (s : State) (h : Held (merged s)) where
   busy_once : (task : ℕ) → busy s task ≤ 1
   busy_once task = omega (arith, jobs_count task, h.tasks task)
 
-  -- while a task waits no core is idle
-  pub all_seated : 0 < length s.waiting → seated_cores (seats s) ≡ s.width
-  all_seated wait =
+  each_seated : seated_cores (seats s) ≡ length s.running + length s.taken
+  each_seated =
       row_full places cores_once places_low
       (numbered_all places (omega (arith, sum_by-append (λ (r : Running). cond (eqb 0 r.task) 1 0) s.running s.taken, jobs_count 0, h.numbered)))
-      ∙ omega (arith, length-append s.running s.taken, line_length s, h.full (omega (arith, line_length s, jobs_length s)))
+      ∙ length-append s.running s.taken
+
+  -- while a task waits no core is idle
+  pub all_seated : 0 < length s.waiting → seated_cores (seats s) ≡ s.width
+  all_seated wait = each_seated ∙ omega (arith, line_length s, h.full (omega (arith, line_length s, jobs_length s)))
+
+  pub cores_few : length s.running + length s.taken ≤ 16
+  cores_few = omega (arith, each_seated, count_by-le-length (ltb 0) (seats s), length_row places)
 
   -- no task has more than is left, and one above 32 nothing
   taken_le : (task : ℕ) → running_of task s.taken ≤ seated task s.taken * s.left

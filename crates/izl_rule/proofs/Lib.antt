@@ -7,6 +7,7 @@ pub mod Merging
 pub mod Passages
 pub mod Settling
 pub mod Seating
+pub mod Few
 pub mod Handing
 pub mod Ordering
 pub mod Filling
