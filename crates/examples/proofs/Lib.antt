@@ -1,1 +1,2 @@
 mod Smallest
+pub mod Next

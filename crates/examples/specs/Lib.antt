@@ -1,3 +1,4 @@
 pub mod Samples
 pub mod Worked
 pub mod Instance
+pub mod Known

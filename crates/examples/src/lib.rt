@@ -1,16 +1,21 @@
-// The worked examples, as one theorem over the table of them, and an instance of all that a run's promise asks for.
+// The worked examples, as one theorem over the table of them; an instance of all that a run's promise asks for; what any dispatcher over IZL tells.
 #![tactic(auto)]
 
 ghost use Rattle.std.specs.Prelude.{◌≡◌};
 ghost use Rattle.dispatch.specs.Counts.{frame_start};
+ghost use Rattle.dispatch.specs.Runs.Call.{next_slice};
+ghost use Rattle.dispatch.specs.Runs.{Does};
 ghost use Rattle.examples.specs.Instance.{Running, smallest};
+ghost use Rattle.examples.specs.Known.{Known, NoneIdle};
 ghost use Rattle.examples.specs.Worked.{Worked};
+ghost use Rattle.izl.specs.Told as izl;
 ghost use Rattle.startup.specs.Startup.{LaunchedFile};
 ghost use Rattle.wrap.specs.Told.{told};
 
-use dispatch::Dispatcher;
+use dispatch::{Dispatcher, Stamped};
+use izl::Izl;
 use local::LocalScheduler;
-use refusal::SheetFault;
+use refusal::{DispatchFault, SheetFault};
 use startup::launch_file;
 use wrap::Wrap;
 
@@ -46,4 +51,14 @@ pub fn smallest_plan() -> Dispatcher<Wrap>
     ensures { Running result }
 {
     launch_smallest(Wrap::new()).unwrap()
+}
+
+// The next slice of a dispatcher over IZL that ran before, by whatever calls.
+#[tactic(auto, using(crate::proofs::Next::none_idle))]
+pub fn next_by_izl(run: &mut Dispatcher<Izl>) -> Result<Stamped, DispatchFault>
+    ensures known { Known run.old }
+    ensures does { Does izl.told run.old (next_slice result) run.new }
+    ensures none_idle { NoneIdle result run.new }
+{
+    run.next_slice()
 }

@@ -1,5 +1,5 @@
 -- A sound state has at most 32 tasks in its queues and on its cores.
-use Rattle.std.proofs.Common.{◌≡◌, ℕ, ◌+◌, ◌<◌, ◌≤◌, Bool, true, false, eqb, ◌⊎◌, List, [], ◌∷◌, ◌++◌, map, length, count_by, refl, ap, ◌∙◌, inl, inr, arith}
+use Rattle.std.proofs.Common.{◌≡◌, ℕ, ◌+◌, ◌<◌, ◌≤◌, Bool, true, false, eqb, ◌⊎◌, List, [], ◌∷◌, ◌++◌, map, length, count_by, refl, inl, inr, arith}
 use Rattle.std.specs.List.{AllByRecursion, IsDistinct, list_any}
 use Rattle.std.proofs.lemmas.Bool.{cases_lt, eq-eqb, ne_eqb}
 use Rattle.std.proofs.lemmas.List.{length-append, length-map}
@@ -37,16 +37,9 @@ distinct (m ∷ ms) h =
 
 -- numbers from 1 to n, none twice, are at most n
 few : (n : ℕ) (ms : List ℕ) → ((k : ℕ) → times k ms ≤ 1) → ((k : ℕ) → n < k → times k ms ≡ 0) → times 0 ms ≡ 0 → length ms ≤ n
-few n ms once past none = omega (arith, length-le_from_distinct_below (0 ∷ ms) (n + 1) (distinct (0 ∷ ms) (λ k. twice k (cases_lt 0 k))) (λ k h. within k h (cases_lt n k)))
+unfolding IsDistinct
+few n ms once past none = omega (arith, length-le_from_distinct_below (0 ∷ ms) (n + 1) (apart 0 ms none, distinct ms once) (λ k h. within k h (cases_lt n k)))
   where
-    twice : (k : ℕ) → (0 < k) ⊎ (k ≤ 0) → times k (0 ∷ ms) ≤ 1
-    twice k (inl l) = let z : bit (eqb k 0) ≡ 0 = rw (ne_eqb k 0 (λ e. omega (arith, e, l))) in omega (arith, one_more k 0 ms, once k, z)
-    twice k (inr l) = let e : k ≡ 0 = omega (arith, l) in let m : times k ms ≡ 0 = ap (λ x. times x ms) e ∙ none in omega (arith, one_more k 0 ms, m, bit_le (eqb k 0))
-      where
-        bit_le : (b : Bool) → bit b ≤ 1
-        bit_le true = omega arith
-        bit_le false = omega arith
-
     within : (k : ℕ) → list_any (eqb k) (0 ∷ ms) ≡ true → (n < k) ⊎ (k ≤ n) → k < n + 1
     within k h (inl l) = let f = list_any_none (eqb k) (0 ∷ ms) (All-from_recursion (λ m. eqb k m ≡ false) (0 ∷ ms) (ne_eqb k 0 (λ e. omega (arith, e, l)), apart k ms (past k l))) in cc
     within k h (inr l) = omega (arith, l)
